@@ -1,0 +1,10 @@
+pub mod Frames
+pub mod Triangles
+pub mod Pairs
+pub mod Flips
+pub mod Relabellings
+pub mod Labels
+pub mod Stored
+pub mod Moved
+pub mod Undoing
+pub mod Spelling

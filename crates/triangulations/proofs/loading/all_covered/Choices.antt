@@ -1,0 +1,9 @@
+use mathlib.Core.Path.{_≡_}
+use mathlib.Core.Bool.{true, _||_}
+use Prim.Native.Nat.{_+_, _*_}
+use Rattle.triangulations.specs.Triangulations.{inside}
+use Rattle.triangulations.specs.Stored.{table-of, all-below, covers}
+use Rattle.triangulations.proofs.loading.all_covered.Given as given
+
+abbrev pub Inv-loop-e : given.InvT-loop-e
+Inv-loop-e l = all-below (l .e) (covers (table-of (l .table))) ≡ true
