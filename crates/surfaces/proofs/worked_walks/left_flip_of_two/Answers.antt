@@ -4,7 +4,7 @@ use Rattle.triangulations.specs.Steps.{flipped-by, triangle}
 use Rattle.surfaces.proofs.worked_walks.left_flip_of_two.Needs as need
 
 pub returns : need.returns
-unfolding flippable together flipped-by triangle
+unfolding together flipped-by triangle
 returns c = record {
   one-before = record { first = refl; second = refl; third = refl };
   other-before = record { first = refl; second = refl; third = refl };
