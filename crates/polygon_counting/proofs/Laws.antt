@@ -8,9 +8,10 @@ use native.Mathlib.Omega.{arith}
 use lib.Dec.{ltb, eqb}
 use lib.ListN.{length}
 use Rattle.std.proofs.shelf.Tests.{cases-lt, cases-eq, cond-true, cond-false, lt-ltb, le-ltb, eq-eqb, eqb-true, and-parts, and-from, or-cases, or-left, or-right}
+use Rattle.std.specs.Options.{isSome}
 use Rattle.std.specs.declared.option.Option.{Option}
 use Rattle.std.specs.declared.option.Option.the-variants.{Some, None}
-use Rattle.triangulations.specs.Triangulations.{Triangulation, Lawful, is-some, edge-of}
+use Rattle.triangulations.specs.Triangulations.{Triangulation, Lawful, edge-of}
 use Rattle.polygon_counting.specs.declared.diagonal.Diagonal.{Diagonal}
 use Rattle.polygon_counting.specs.Diagonals.{at, Uncrossed}
 use Rattle.polygon_counting.specs.Polygons.{first-below, and-then, onward, between, joins, diagonal-dart, dart-to, joined, closes, apex, following, ends, polygon-next, polygon}
@@ -27,7 +28,7 @@ some-not-none p q = absurd (let z : _≡_ {A = ℕ} 0 1 = cc (p, q) in omega ari
 same : {A : Type 0} {o : Option A} {a b : A} → o ≡ Some a → o ≡ Some b → a ≡ b
 same p q = cc
 
-some-of : (o : Option ℕ) → is-some o ≡ true → (d : ℕ) × (o ≡ Some d)
+some-of : (o : Option ℕ) → isSome o ≡ true → (d : ℕ) × (o ≡ Some d)
 some-of None e = absurd (let z : _≡_ {A = ℕ} 0 1 = cc (e) in omega arith)
 some-of (Some d) e = (d, refl)
 
@@ -215,7 +216,7 @@ module _ (n : ℕ) (ds : List Diagonal) (ad : Admissible n (length ds) (low-of d
   closes-to : (u v w d e : ℕ) → Between v w u → D d v w → D e w u → closes n ds u v w ≡ true
   closes-to u v w d e b p q =
       and-from (between v w u) (joined n ds v w && joined n ds w u) (between-to v w u b)
-      (and-from (joined n ds v w) (joined n ds w u) (ap is-some (dart-at d v w p)) (ap is-some (dart-at e w u q)))
+      (and-from (joined n ds v w) (joined n ds w u) (ap isSome (dart-at d v w p)) (ap isSome (dart-at e w u q)))
 
   closes-from : (u v w : ℕ) → (u ≡ v → ⊥) → v < n → w < n → closes n ds u v w ≡ true → Apex u v
   closes-from u v w ne hv hw t =
@@ -299,20 +300,25 @@ module _ (n : ℕ) (ds : List Diagonal) (ad : Admissible n (length ds) (low-of d
         };
       }
 
-  side-triangle : (i : ℕ) → i < n → Triangle (2 * i)
+  -- from where to where d runs, or else it has no ends
+  run : (d : ℕ) → ((u : ℕ) × (v : ℕ) × D d u v) ⊎ (ends n ds d ≡ None)
   unfolding D
-  side-triangle i h = elim (onward-is n i h) [
-    | inl o ↦ triangle (2 * i) i (i + 1) (side (o .0) refl refl)
-    | inr o ↦ triangle (2 * i) i 0 (last (o .0) refl refl)
+  run d = elim (cases-lt (d / 2) n) [
+    | inl h ↦ elim (cases-eq (d % 2) 0) [
+      | inl p ↦ elim (onward-is n (d / 2) h) [
+        | inl o ↦ inl (d / 2, d / 2 + 1, side (o .0) (omega arith) refl)
+        | inr o ↦ inl (d / 2, 0, last (o .0) (omega arith) refl)
+      ]
+      | inr p ↦ inr (ends-outside n ds d h p)
+    ]
+    | inr h ↦ elim (cases-lt (d / 2) (n + length ds)) [
+      | inl l ↦ elim (cases-eq (d % 2) 0) [
+        | inl p ↦ inl (lo (d / 2 - n), hi (d / 2 - n), up (d / 2 - n) (omega arith) (omega arith) refl refl)
+        | inr p ↦ inl (hi (d / 2 - n), lo (d / 2 - n), down (d / 2 - n) (omega arith) (omega arith) refl refl)
+      ]
+      | inr l ↦ inr (ends-past n ds d l)
+    ]
   ]
-
-  up-triangle : (k : ℕ) → k < length ds → Triangle (2 * (n + k))
-  unfolding D
-  up-triangle k h = triangle (2 * (n + k)) (lo k) (hi k) (up k h refl refl refl)
-
-  down-triangle : (k : ℕ) → k < length ds → Triangle (2 * (n + k) + 1)
-  unfolding D
-  down-triangle k h = triangle (2 * (n + k) + 1) (hi k) (lo k) (down k h refl refl refl)
 
   none-next : (d : ℕ) → ends n ds d ≡ None → next d ≡ None
   unfolding next polygon-next
@@ -322,19 +328,26 @@ module _ (n : ℕ) (ds : List Diagonal) (ad : Admissible n (length ds) (low-of d
   none-past d h = none-next d (ends-past n ds d (omega arith))
 
   inside : (d : ℕ) → Triangle d ⊎ (next d ≡ None)
-  inside d = elim (cases-lt (d / 2) n) [
-    | inl h ↦ elim (cases-eq (d % 2) 0) [
-      | inl p ↦ inl (let e : 2 * (d / 2) ≡ d = omega arith in subst Triangle e (side-triangle (d / 2) h))
-      | inr p ↦ inr (none-next d (ends-outside n ds d h p))
-    ]
-    | inr h ↦ elim (cases-lt (d / 2) (n + length ds)) [
-      | inl l ↦ elim (cases-eq (d % 2) 0) [
-        | inl p ↦ inl (let e : 2 * (n + (d / 2 - n)) ≡ d = omega arith in subst Triangle e (up-triangle (d / 2 - n) (omega arith)))
-        | inr p ↦ inl (let e : 2 * (n + (d / 2 - n)) + 1 ≡ d = omega arith in subst Triangle e (down-triangle (d / 2 - n) (omega arith)))
-      ]
-      | inr l ↦ inr (none-next d (ends-past n ds d l))
-    ]
+  inside d = elim (run d) [ inl r ↦ inl (triangle d (r .0) (r .1) (r .2)) | inr e ↦ inr (none-next d e) ]
+
+  run-below : (d u v : ℕ) → ends n ds d ≡ Some (u, v) → (u < n) × (v < n)
+  run-below d u v e = elim (run d) [
+    | inl r ↦ (let b = bounds d (r .0) (r .1) (r .2) in
+        let q : _≡_ {A = ℕ × ℕ} (r .0, r .1) (u, v) = same (ends-at d (r .0) (r .1) (r .2)) e in
+        (subst (λ (x : ℕ). x < n) (ap (λ q. q .0) q) (b .0), subst (λ (x : ℕ). x < n) (ap (λ q. q .1) q) (b .1)))
+    | inr z ↦ some-not-none e z
   ]
+
+  side-first : (i : ℕ) → i < n → (e : ℕ) × (next (2 * i) ≡ Some e)
+  unfolding D
+  side-first i h = elim (onward-is n i h) [
+    | inl o ↦ (let t = triangle (2 * i) i (i + 1) (side (o .0) refl refl) in (t .e, t .first))
+    | inr o ↦ (let t = triangle (2 * i) i 0 (last (o .0) refl refl) in (t .e, t .first))
+  ]
+
+  up-first : (k : ℕ) → k < length ds → (e : ℕ) × (next (2 * (n + k)) ≡ Some e)
+  unfolding D
+  up-first k h = let t = triangle (2 * (n + k)) (lo k) (hi k) (up k h refl refl refl) in (t .e, t .first)
 
   some-triangle : (d e : ℕ) → next d ≡ Some e → Triangle d
   some-triangle d e p = elim (inside d) [ inl t ↦ t | inr q ↦ some-not-none p q ]
@@ -351,8 +364,8 @@ module _ (n : ℕ) (ds : List Diagonal) (ad : Admissible n (length ds) (low-of d
           let s : b ≡ t .f = same r (ap next q ∙ t .second) in
           ap next s ∙ t .third;
       covered = λ e h p q. elim (cases-lt e n) [
-        | inl l ↦ some-not-none (side-triangle e l .first) p
-        | inr l ↦ (let x : 2 * e ≡ 2 * (n + (e - n)) = omega arith in some-not-none (up-triangle (e - n) (omega arith) .first) (ap next (sym x) ∙ p))
+        | inl l ↦ some-not-none (side-first e l .1) p
+        | inr l ↦ (let x : 2 * e ≡ 2 * (n + (e - n)) = omega arith in some-not-none (up-first (e - n) (omega arith) .1) (ap next (sym x) ∙ p))
       ];
       bounded = λ d a p. elim (cases-lt d (2 * (n + length ds))) [ inl h ↦ h | inr h ↦ some-not-none p (none-past d h) ];
     };
@@ -361,3 +374,7 @@ module _ (n : ℕ) (ds : List Diagonal) (ad : Admissible n (length ds) (low-of d
 
 pub cut-into-triangles : Cut-into-triangles
 cut-into-triangles n ds full un = triangulated n ds (admissible n ds un) full
+
+-- an inside dart runs from corner to corner
+pub corners-below : (n : ℕ) (ds : List Diagonal) → n ≡ length ds + 3 → Uncrossed n ds → (d u v : ℕ) → ends n ds d ≡ Some (u, v) → (u < n) × (v < n)
+corners-below n ds full un = run-below n ds (admissible n ds un) full

@@ -1,5 +1,5 @@
 -- What a search finds.
-use mathlib.Core.Path.{_≡_, refl, sym, _∙_, ap}
+use mathlib.Core.Path.{_≡_, refl, sym, _∙_, ap, subst}
 use mathlib.Core.Bool.{Bool, true, false, cond}
 use mathlib.Core.Logic.{_⊎_, inl, inr}
 use Prim.Native.Nat.{ℕ, zero, suc, _<_}
@@ -51,3 +51,6 @@ none-found n p f = go (first-below n p) refl (search-tells n p)
     go : (o : Option ℕ) → first-below n p ≡ o → Tells n p o → first-below n p ≡ None
     go None e w = e
     go (Some j) e w = absurd (both-ways (p j) (f j (w .0)) (w .1))
+
+pub found-below : (n : ℕ) (p : ℕ → Bool) (k : ℕ) → first-below n p ≡ Some k → k < n
+found-below n p k e = subst (Tells n p) e (search-tells n p) .0

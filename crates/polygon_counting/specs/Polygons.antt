@@ -6,10 +6,10 @@ use mathlib.Core.List.{List}
 use Prim.Native.Nat.{ℕ, zero, suc, _+_, _-_, _*_, _%_}
 use lib.Dec.{ltb, eqb}
 use lib.ListN.{length}
-use Rattle.std.specs.Options.{orOther}
+use Rattle.std.specs.Options.{isSome, orOther}
 use Rattle.std.specs.declared.option.Option.{Option}
 use Rattle.std.specs.declared.option.Option.the-variants.{Some, None}
-use Rattle.triangulations.specs.Triangulations.{Triangulation, edge-of, is-some}
+use Rattle.triangulations.specs.Triangulations.{Triangulation, edge-of}
 use Rattle.polygon_counting.specs.declared.diagonal.Diagonal.{Diagonal}
 use Rattle.polygon_counting.specs.Diagonals.{at}
 
@@ -46,7 +46,7 @@ dart-to n ds u v =
     (and-then (first-below (length ds) (λ k. joins u v (at ds k))) (λ k. Some (diagonal-dart n u v k)))
 
 abbrev pub joined : ℕ → List Diagonal → ℕ → ℕ → Bool
-joined n ds u v = is-some (dart-to n ds u v)
+joined n ds u v = isSome (dart-to n ds u v)
 
 -- whether w closes a triangle on the left of the dart from u to v: it is joined to both and met going counterclockwise from v to u
 abbrev pub closes : ℕ → List Diagonal → ℕ → ℕ → ℕ → Bool
