@@ -3,3 +3,4 @@ pub mod darts;
 mod judging;
 pub mod making;
 pub mod polygon;
+pub mod worked_walks;

@@ -1,4 +1,5 @@
 use mathlib.Core.Path.{_≡_, _∙_, ap}
+use mathlib.Core.List.{List}
 use native.Mathlib.Omega.{arith}
 use Prim.Native.Nat.{ℕ, _-_}
 use lib.ListN.{length, replicate}
@@ -9,7 +10,7 @@ use Rattle.polygons.proofs.making.stored.Needs as need
 pub returns : need.returns
 returns c =
     let ds = c .args .diagonals .now in
-    let blank = replicate 30 (record { low = 0; high = 0 }) in
+    let blank : List Diagonal = replicate 30 (record { low = 0; high = 0 }) in
     let few = c .pre in
     record {
       whole = length-written blank ds (c .copy-from-slice .last .self) (length ds - 0) (omega arith) (c .copy-from-slice .ensures .after) (omega arith);
