@@ -1,7 +1,8 @@
 -- Which polygons are made, and why others are refused.
+use mathlib.Core.Path.{_≡_}
 use mathlib.Core.Bool.{Bool, cond, not, _&&_}
 use mathlib.Core.List.{List}
-use Prim.Native.Nat.{ℕ, zero, suc, _-_}
+use Prim.Native.Nat.{ℕ, zero, suc, _+_, _-_, _≤_}
 use lib.Dec.{leb, eqb}
 use lib.ListN.{length}
 use Rattle.std.specs.Options.{orOther}
@@ -11,7 +12,14 @@ use Rattle.triangulations.specs.Stored.{all-below}
 use Rattle.surfaces.specs.declared.faults.SurfaceFault.{SurfaceFault}
 use Rattle.surfaces.specs.declared.faults.SurfaceFault.the-variants.{CountOutside, NotDiagonal, Crosses}
 use Rattle.polygon_counting.specs.declared.diagonal.Diagonal.{Diagonal}
-use Rattle.polygon_counting.specs.Diagonals.{at, proper, clashes}
+use Rattle.polygon_counting.specs.Diagonals.{at, proper, clashes, Uncrossed}
+
+-- what makes a polygon of n corners that the diagonals ds cut into triangles
+pub record Admitted (n : ℕ) (ds : List Diagonal) : Type 0 where
+  pub least : 3 ≤ n
+  pub most : n ≤ 33
+  pub full : n ≡ length ds + 3
+  pub uncrossed : Uncrossed n ds
 
 -- whether diagonal k neither crosses nor repeats an earlier one
 abbrev pub clear : List Diagonal → ℕ → Bool

@@ -1,7 +1,9 @@
 ghost use mathlib.Core.Path.{_≡_};
 ghost use Prim.Native.Nat.{_≤_};
 ghost use lib.ListN.{length, take};
-ghost use Rattle.polygons.specs.Judging.{counts-fit};
+ghost use Rattle.std.specs.Orderings.{Decides};
+ghost use Rattle.std.specs.Results.{isOk};
+ghost use Rattle.polygons.specs.Judging.{Admitted, counts-fit};
 ghost use Rattle.polygons.specs.Meaning.{cut-by, Made};
 use crate::judging::first_fault;
 use crate::polygon::Polygon;
@@ -12,7 +14,8 @@ impl Polygon {
     /// The polygon with so many corners, cut along these diagonals. Refused are counts of corners below 3 and above 33, then any count of
     /// diagonals but three less, then the first diagonal that is none, or else crosses or repeats an earlier one.
     pub fn new(corners: u16, diagonals: &[Diagonal]) -> Result<Polygon, SurfaceFault>
-        ensures { λ r. ⌜ Made corners (now (diagonals .entry)) r ⌝ }
+        ensures granted { λ r. ⌜ Decides (isOk r) (Admitted corners (now (diagonals .entry))) ⌝ }
+        ensures made { λ r. ⌜ Made corners (now (diagonals .entry)) r ⌝ }
     {
         if !fit_together(corners, diagonals.len()) {
             return Err(SurfaceFault::CountOutside);
