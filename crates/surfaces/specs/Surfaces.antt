@@ -2,7 +2,7 @@
 use Prim.Native.Nat.{ℕ, _≤_}
 use Rattle.triangulations.specs.Triangulations.{Triangulation, Lawful}
 use Rattle.surfaces.specs.declared.faults.SurfaceFault.{SurfaceFault}
-use Rattle.surfaces.specs.declared.faults.SurfaceFault.the-variants.{CountOutside}
+use Rattle.surfaces.specs.declared.faults.SurfaceFault.the-variants.{CountOutside, NotDiagonal, Crosses}
 
 -- it is lawful, and has from 2 to 64 edges
 pub record Sound (t : Triangulation) : Type 0 where
@@ -13,3 +13,5 @@ pub record Sound (t : Triangulation) : Type 0 where
 -- the numbers of the refusals
 abbrev pub fault-number : SurfaceFault → ℕ
 fault-number CountOutside = 4
+fault-number (NotDiagonal k) = 8
+fault-number (Crosses k) = 9

@@ -1,0 +1,3 @@
+pub mod Diagonals
+pub mod Polygons
+pub mod Theorem

@@ -1,0 +1,5 @@
+pub mod Admission
+pub mod Shape
+pub mod Storing
+pub mod Rows
+pub mod Pentagon
