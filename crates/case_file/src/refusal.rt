@@ -14,6 +14,10 @@ pub enum Refusal {
     UnknownMark { offset: usize },
     /// The count at this offset is outside its limits.
     CountOutside { offset: usize },
+    /// The pair of corners with this index is no diagonal.
+    NotDiagonal { index: usize },
+    /// The diagonal with this index crosses or repeats an earlier one.
+    Crosses { index: usize },
     /// The step record with this index in its section has a fault.
     StepRecord { index: usize, fault: RecordFault },
     /// The edge that the step with this index flips is not flippable.
@@ -28,6 +32,8 @@ impl Refusal {
             Refusal::EndsEarly { .. } => 1,
             Refusal::UnknownMark { .. } => 3,
             Refusal::CountOutside { .. } => 4,
+            Refusal::NotDiagonal { .. } => 8,
+            Refusal::Crosses { .. } => 9,
             Refusal::StepRecord { fault, .. } => fault.number(),
             Refusal::NotFlippable { .. } => 10,
         }
@@ -38,6 +44,7 @@ impl Refusal {
     {
         match self {
             Refusal::EndsEarly { .. } | Refusal::UnknownMark { .. } | Refusal::CountOutside { .. } => 1,
+            Refusal::NotDiagonal { .. } | Refusal::Crosses { .. } => 2,
             Refusal::StepRecord { .. } | Refusal::NotFlippable { .. } => 3,
         }
     }
@@ -49,6 +56,8 @@ impl Refusal {
             Refusal::EndsEarly { length } => length,
             Refusal::UnknownMark { offset } => offset,
             Refusal::CountOutside { offset } => offset,
+            Refusal::NotDiagonal { index } => index,
+            Refusal::Crosses { index } => index,
             Refusal::StepRecord { index, .. } => index,
             Refusal::NotFlippable { index } => index,
         }
