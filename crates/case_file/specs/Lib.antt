@@ -2,3 +2,4 @@ pub mod Refusals
 pub mod Reading
 pub mod Records
 pub mod Sections
+pub mod Values

@@ -1,7 +1,7 @@
 -- The records of a case file, as they lie in it.
 use mathlib.Core.List.{List}
 use Prim.Native.Nat.{ℕ}
-use lib.ListN.{getD}
+use lib.ListN.{getD, take}
 use Rattle.std.specs.declared.result.Result.{Result}
 use Rattle.std.specs.declared.result.Result.the-variants.{Ok, Err}
 use Rattle.triangulations.specs.declared.step.Step.{Step}
@@ -16,15 +16,20 @@ use Rattle.case_file.specs.Reading.{Position, offset, whole}
 -- a record, by its offset and its bytes
 pub data Seen : Type 0 where
   step : (offset code e f : ℕ) → Seen
+  value : (offset : ℕ) → List ℕ → Seen
 
 abbrev pub seen : Record → Seen
 seen (kind.Step offset code e f) = step offset (code .now) (e .now) (f .now)
+seen (kind.Value offset bytes) = value offset (bytes .now)
 
 abbrev pub step-record-in : ℕ → List ℕ → Result Seen Refusal
 step-record-in offset bytes = Ok (step offset (getD bytes 0 0) (getD bytes 1 0) (getD bytes 2 0))
 
 abbrev pub step-record-at : Position → Result (Seen × Position) Refusal
 step-record-at p = whole 3 (step-record-in (offset p)) p
+
+abbrev pub value-record-at : ℕ → Position → Result (Seen × Position) Refusal
+value-record-at width p = whole width (λ bytes. Ok (value (offset p) (take width bytes))) p
 
 -- a fault of the record with this index in its section
 abbrev pub with-index : ℕ → Result Step RecordFault → Result Step Refusal

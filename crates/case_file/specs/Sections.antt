@@ -19,9 +19,10 @@ use Rattle.polygons.specs.Judging.{first-fault}
 use Rattle.polygons.specs.Meaning.{triangulation-of}
 use Rattle.case_file.specs.declared.surface_section.CaseSurface.{CaseSurface}
 use Rattle.case_file.specs.declared.surface_section.CaseSurface.the-variants as surface
+use Rattle.case_file.specs.declared.values_section.ValuesHead.{ValuesHead}
 use Rattle.case_file.specs.declared.refusal.Refusal.{Refusal}
 use Rattle.case_file.specs.declared.refusal.Refusal.the-variants.{EndsEarly, UnknownMark, CountOutside, NotDiagonal, Crosses}
-use Rattle.case_file.specs.Reading.{Position, offset, past, then, refused-if, count-at, mark-at}
+use Rattle.case_file.specs.Reading.{Position, offset, past, whole, then, refused-if, count-at, mark-at}
 
 -- whether a count lies outside its limits
 abbrev pub outside : (least most count : ℕ) → Bool
@@ -71,6 +72,14 @@ surface-at p =
     (cond (eqb (m .0) 0x54)
       (refused-if (outside 1 21 (n .0)) (CountOutside (offset p)) (Ok (torus (n .0), m .1)))
     (Err (UnknownMark (offset (n .1)))))))
+
+-- a section of records of so many bytes, passed over unjudged
+abbrev pub passed-at : ℕ → Position → Result (ℕ × Position) Refusal
+passed-at width p = then (count-at p) (λ n. whole (n .0 * width) (λ bytes. Ok (n .0)) (n .1))
+
+-- the head of the values: their count and the mark of their kind
+abbrev pub values-head-at : Position → Result (ValuesHead × Position) Refusal
+values-head-at p = then (count-at p) (λ n. then (mark-at (n .1)) (λ m. Ok (record { count = n .0; mark = m .0; offset = offset (n .1) }, m .1)))
 
 -- the count of a walk's steps, at most 256
 abbrev pub walk-count-at : Position → Result (ℕ × Position) Refusal

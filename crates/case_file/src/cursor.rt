@@ -1,4 +1,5 @@
 ghost use mathlib.Core.Path.{_≡_};
+ghost use lib.Dec.{eqb};
 ghost use lib.ListN.{length};
 ghost use Rattle.case_file.specs.Reading.{Gives, itself, position, offset, count-at, mark-at};
 use crate::refusal::Refusal;
@@ -24,6 +25,13 @@ impl<'a> Cursor<'a> {
         ensures { λ r. ⌜ r ≡ offset (position (now (self .entry))) ⌝ }
     {
         self.size.saturating_sub(self.rest.len())
+    }
+
+    /// Whether nothing is left.
+    pub fn is_at_end(&self) -> bool
+        ensures { λ r. ⌜ r ≡ eqb (length (position (now (self .entry)) .rest)) 0 ⌝ }
+    {
+        self.rest.len() == 0
     }
 
     /// Reads the count that opens a section.

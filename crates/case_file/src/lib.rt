@@ -3,4 +3,5 @@ pub mod cursor;
 pub mod record;
 pub mod refusal;
 pub mod surface_section;
+pub mod values_section;
 pub mod walk_section;

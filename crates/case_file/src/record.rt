@@ -1,6 +1,6 @@
 ghost use mathlib.Core.Path.{_≡_};
 ghost use Rattle.case_file.specs.Reading.{Gives, position};
-ghost use Rattle.case_file.specs.Records.{seen, step-record-at};
+ghost use Rattle.case_file.specs.Records.{seen, step-record-at, value-record-at};
 use crate::cursor::Cursor;
 use crate::refusal::Refusal;
 
@@ -8,6 +8,7 @@ use crate::refusal::Refusal;
 #[derive(Clone, Copy)]
 pub enum Record<'a> {
     Step { offset: usize, code: &'a u8, e: &'a u8, f: &'a u8 },
+    Value { offset: usize, bytes: &'a [u8] },
 }
 
 /// Reads the next step record, whole.
@@ -21,4 +22,18 @@ pub fn next_step_record<'a>(from: &mut Cursor<'a>) -> Result<Record<'a>, Refusal
     };
     from.rest = rest;
     Ok(Record::Step { offset, code, e, f })
+}
+
+/// Reads the next value record, so many bytes, whole.
+pub fn next_value_record<'a>(width: usize, from: &mut Cursor<'a>) -> Result<Record<'a>, Refusal>
+    ensures { λ r. ⌜ Gives seen r (position (now (from .exit))) (value-record-at width (position (now (from .entry)))) ⌝ }
+{
+    let offset = from.offset();
+    let bytes = from.rest;
+    if bytes.len() < width {
+        return Err(Refusal::EndsEarly { length: from.size });
+    }
+    let (bytes, rest) = bytes.split_at(width);
+    from.rest = rest;
+    Ok(Record::Value { offset, bytes })
 }

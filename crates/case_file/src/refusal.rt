@@ -1,5 +1,9 @@
 ghost use mathlib.Core.Path.{_≡_};
 ghost use Rattle.case_file.specs.Refusals.{refusal-number, refusal-layer, refusal-place};
+use numbers::fault::CarryFault;
+use numbers::fault::CarryFaultDebug;
+use numbers::fault::CarryFaultEq;
+use numbers::fault::CarryFaultPartialEq;
 use triangulations::records::RecordFault;
 use triangulations::records::RecordFaultDebug;
 use triangulations::records::RecordFaultEq;
@@ -22,6 +26,12 @@ pub enum Refusal {
     StepRecord { index: usize, fault: RecordFault },
     /// The edge that the step with this index flips is not flippable.
     NotFlippable { index: usize },
+    /// The bytes of the value with this index are no number of the kind.
+    NotNumber { index: usize },
+    /// An operation of a flip has no stored result.
+    NoStoredResult { fault: CarryFault },
+    /// There are neither 0 nor E values, but so many.
+    ValueCount { count: usize },
 }
 
 impl Refusal {
@@ -36,6 +46,9 @@ impl Refusal {
             Refusal::Crosses { .. } => 9,
             Refusal::StepRecord { fault, .. } => fault.number(),
             Refusal::NotFlippable { .. } => 10,
+            Refusal::NotNumber { .. } => 17,
+            Refusal::NoStoredResult { fault } => fault.number(),
+            Refusal::ValueCount { .. } => 19,
         }
     }
 
@@ -46,6 +59,7 @@ impl Refusal {
             Refusal::EndsEarly { .. } | Refusal::UnknownMark { .. } | Refusal::CountOutside { .. } => 1,
             Refusal::NotDiagonal { .. } | Refusal::Crosses { .. } => 2,
             Refusal::StepRecord { .. } | Refusal::NotFlippable { .. } => 3,
+            Refusal::NotNumber { .. } | Refusal::NoStoredResult { .. } | Refusal::ValueCount { .. } => 6,
         }
     }
 
@@ -60,6 +74,9 @@ impl Refusal {
             Refusal::Crosses { index } => index,
             Refusal::StepRecord { index, .. } => index,
             Refusal::NotFlippable { index } => index,
+            Refusal::NotNumber { index } => index,
+            Refusal::NoStoredResult { fault } => fault.step,
+            Refusal::ValueCount { count } => count,
         }
     }
 }

@@ -27,9 +27,11 @@ pub fn read_walk_count(from: &mut Cursor) -> Result<u16, Refusal>
 pub fn read_step(edges: u8, index: usize, from: &mut Cursor) -> Result<Step, Refusal>
     ensures { λ r. ⌜ Gives itself r (position (now (from .exit))) (step-at edges index (position (now (from .entry)))) ⌝ }
 {
-    let Record::Step { code, e, f, .. } = next_step_record(from)?;
-    match Step::read([*code, *e, *f], edges) {
-        Ok(step) => Ok(step),
-        Err(fault) => Err(Refusal::StepRecord { index, fault }),
+    match next_step_record(from)? {
+        Record::Step { code, e, f, .. } => match Step::read([*code, *e, *f], edges) {
+            Ok(step) => Ok(step),
+            Err(fault) => Err(Refusal::StepRecord { index, fault }),
+        },
+        Record::Value { .. } => unreachable(),
     }
 }
