@@ -225,8 +225,8 @@ def read_surface(file):
     if not least <= count <= most:
         raise Refused(4, 1, 0)
     if mark == 0x50:
-        return "polygon with %d corners" % count, read_polygon(file, count), 2 * count - 3
-    return "torus with %d puncture%s" % (count, "" if count == 1 else "s"), torus(count), 3 * count
+        return "polygon, n = %d" % count, read_polygon(file, count), 2 * count - 3
+    return "torus, m = %d" % count, torus(count), 3 * count
 
 
 def read_values(data, at, edges):

@@ -18,6 +18,13 @@ refused-with number layer place =
 abbrev pub refused-text : Refusal → List ℕ
 refused-text r = refused-with (refusal-number r) (refusal-layer r) (refusal-place r)
 
+-- the names of surfaces
+abbrev pub punctures-text : ℕ → List ℕ
+punctures-text m = codes "torus, m = " ++ decimal m
+
+abbrev pub corners-text : ℕ → List ℕ
+corners-text n = codes "polygon, n = " ++ decimal n
+
 abbrev pub triangle-text : Triangle → List ℕ
 triangle-text t = decimal (t .first) ++ (codes " " ++ (decimal (t .second) ++ (codes " " ++ decimal (t .third))))
 

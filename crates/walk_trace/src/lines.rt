@@ -4,7 +4,7 @@ ghost use Rattle.triangulations.specs.declared.step.Label.the-variants.{Turn, S
 ghost use Rattle.std.specs.Of.String.{string-bytes};
 ghost use Rattle.std.specs.Vec.{made};
 ghost use Rattle.triangulations.specs.Meaning.{meant, meant-flip, meant-label};
-ghost use Rattle.walk_trace.specs.Lines.{refused-text, triangle-text, made-text, exchange-text, step-text};
+ghost use Rattle.walk_trace.specs.Lines.{refused-text, punctures-text, corners-text, triangle-text, made-text, exchange-text, step-text};
 use crate::triangles::Triangle;
 use case_file::refusal::Refusal;
 use std::alloc::AllocError;
@@ -22,6 +22,20 @@ pub fn refused_line(heap: Global, refusal: Refusal) -> Result<String, AllocError
     let layer = refusal.layer();
     let place = refusal.place();
     format!(heap, "REFUSED {number} {layer} {place}\n")
+}
+
+/// The name of a torus and its punctures.
+pub fn punctures_text(heap: Global, punctures: u8) -> Result<String, AllocError>
+    ensures { λ r. ⌜ made r (λ s. string-bytes s ≡ punctures-text punctures) ⌝ }
+{
+    format!(heap, "torus, m = {punctures}")
+}
+
+/// The name of a polygon and its corners.
+pub fn corners_text(heap: Global, corners: u8) -> Result<String, AllocError>
+    ensures { λ r. ⌜ made r (λ s. string-bytes s ≡ corners-text corners) ⌝ }
+{
+    format!(heap, "polygon, n = {corners}")
 }
 
 /// The darts of a triangle.

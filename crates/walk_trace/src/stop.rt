@@ -1,5 +1,6 @@
 use case_file::refusal::Refusal;
 use std::alloc::AllocError;
+use std::alloc::Refused;
 
 /// Why a trace stops before its end.
 #[derive(Clone, Copy, Drop)]
@@ -18,6 +19,12 @@ pub impl From<Refusal> for Stop as StopFromRefusal {
 
 pub impl From<AllocError> for Stop as StopFromAlloc {
     fn from(_error: AllocError) -> Stop {
+        Stop::Memory
+    }
+}
+
+pub impl<T: Drop> From<Refused<T>> for Stop as StopFromRefused {
+    fn from(_refused: Refused<T>) -> Stop {
         Stop::Memory
     }
 }

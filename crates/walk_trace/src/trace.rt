@@ -1,27 +1,35 @@
-use crate::lines::exchange_text;
-use crate::lines::made_text;
+use crate::lines::corners_text;
+use crate::lines::punctures_text;
 use crate::lines::refused_line;
-use crate::lines::step_text;
 use crate::lines::triangle_text;
+use crate::steps::trace_steps;
 use crate::stop::Stop;
 use crate::stop::StopFromAlloc;
 use crate::stop::StopFromRefusal;
 use crate::triangles::Triangle;
-use crate::triangles::triangles_at;
+use crate::values::push_values;
+use crate::values::read_rows;
 use case_file::cursor::Cursor;
 use case_file::refusal::Refusal;
+use case_file::surface_section::CaseSurface;
+use case_file::surface_section::CaseSurfaceSurface;
 use case_file::surface_section::read_surface;
-use case_file::walk_section::read_step;
-use case_file::walk_section::read_walk_count;
+use case_file::values_section::ValuesHead;
+use case_file::values_section::pass_section;
+use case_file::values_section::read_values_head;
+use kinds::fraction::Fraction;
+use kinds::fraction::FractionKind;
+use kinds::weight::Weight;
+use kinds::weight::WeightKind;
+use numbers::kind::Kind;
+use numbers::read::is_marked;
 use std::alloc::AllocError;
 use std::alloc::Global;
 use surfaces::loading::load;
-use surfaces::torus::Torus;
-use surfaces::torus::TorusSurface;
 use triangulations::board::Board;
-use triangulations::step::Step;
 
-/// Lists what each step of a case's first walk does to the triangles of its surface, up to the first refusal.
+/// Lists what each step of a case's first walk does to the triangles of its surface, and to its values where it has some, up
+/// to the first refusal.
 pub fn trace(heap: Global, file: &[u8]) -> Result<String, AllocError> {
     let mut text = String::new(heap);
     match trace_case(heap, file, &mut text) {
@@ -34,58 +42,59 @@ pub fn trace(heap: Global, file: &[u8]) -> Result<String, AllocError> {
 
 fn trace_case(heap: Global, file: &[u8], text: &mut String) -> Result<(), Stop> {
     let mut from = Cursor::new(file);
-    let torus = read_surface(&mut from)?;
+    let surface = read_surface(&mut from)?;
     let mut board = Board::new();
-    load(&torus, &mut board);
-    text.push_str(surface_line(heap, &torus)?.as_str())?;
-    push_triangles(heap, "start", &board, text)?;
-    trace_walk(heap, &mut from, &mut board, text)?;
-    push_triangles(heap, "end", &board, text)?;
+    load(&surface, &mut board);
+    text.push_str(name_of(heap, surface)?.as_str())?;
+    let edges = board.edges();
+    text.push_str(format!(heap, ", E = {edges}\n")?.as_str())?;
+    push_triangles(heap, "start\n", &board, text)?;
+    let mut ahead = from;
+    match find_values(&mut ahead)? {
+        Some(head) if is_marked::<Weight>(head.mark) => trace_kind::<Weight>(heap, "weights\n", head, &mut ahead, &mut from, &mut board, text),
+        Some(head) if is_marked::<Fraction>(head.mark) => trace_kind::<Fraction>(heap, "fractions\n", head, &mut ahead, &mut from, &mut board, text),
+        Some(head) => Err(Stop::Refused(Refusal::UnknownMark { offset: head.offset })),
+        None => trace_walk::<Weight>(heap, "", Vec::new(heap), &mut from, &mut board, text),
+    }
+}
+
+fn name_of(heap: Global, surface: CaseSurface) -> Result<String, AllocError> {
+    match surface {
+        CaseSurface::Torus(torus) => punctures_text(heap, torus.punctures()),
+        CaseSurface::Polygon(polygon) => corners_text(heap, polygon.corners()),
+    }
+}
+
+// Looks past the walk, the second walk and the rewritings for the values. There are none where the file ends with the walk or in
+// it: a walk that is cut short is refused when it is done.
+fn find_values(ahead: &mut Cursor) -> Result<Option<ValuesHead>, Refusal> {
+    if pass_section(3, ahead).is_err() || ahead.is_at_end() {
+        return Ok(None);
+    }
+    pass_section(3, ahead)?;
+    pass_section(7, ahead)?;
+    let head = read_values_head(ahead)?;
+    Ok(Some(head))
+}
+
+// Reads the values, which `values` has next, and traces the walk, which `walk` has next.
+fn trace_kind<K: Kind>(heap: Global, title: &str, head: ValuesHead, values: &mut Cursor, walk: &mut Cursor, board: &mut Board, text: &mut String) -> Result<(), Stop> {
+    let rows = read_rows::<K>(heap, head, board.edges(), values)?;
+    trace_walk(heap, title, rows, walk, board, text)
+}
+
+fn trace_walk<K: Kind>(heap: Global, title: &str, rows: Vec<K>, walk: &mut Cursor, board: &mut Board, text: &mut String) -> Result<(), Stop> {
+    let mut rows = rows;
+    push_values(heap, title, &rows, text)?;
+    trace_steps(heap, &mut rows, walk, board, text)?;
+    push_triangles(heap, "end\n", board, text)?;
+    push_values(heap, title, &rows, text)?;
     Ok(())
-}
-
-fn surface_line(heap: Global, torus: &Torus) -> Result<String, AllocError> {
-    let punctures = torus.punctures();
-    let edges = torus.edges();
-    if punctures == 1 {
-        format!(heap, "torus with 1 puncture, E = {edges}\n")
-    } else {
-        format!(heap, "torus with {punctures} punctures, E = {edges}\n")
-    }
-}
-
-// Reads and does one step after the other.
-fn trace_walk(heap: Global, from: &mut Cursor, board: &mut Board, text: &mut String) -> Result<(), Stop> {
-    let count = read_walk_count(from)?;
-    text.push_str(format!(heap, "steps: {count}\n")?.as_str())?;
-    for index in 0..count as usize {
-        let step = read_step(board.edges(), index, from)?;
-        if !board.step(step) {
-            return Err(Stop::Refused(Refusal::NotFlippable { index }));
-        }
-        push_step(heap, index, step, board, text)?;
-    }
-    Ok(())
-}
-
-fn push_step(heap: Global, index: usize, step: Step, board: &Board, text: &mut String) -> Result<(), AllocError> {
-    let name = step_text(heap, step)?;
-    text.push_str(format!(heap, "  {index}: {name}")?.as_str())?;
-    match step {
-        Step::Flip(flip) => {
-            if let Some((low, high)) = triangles_at(board, flip.edge) {
-                text.push_str(made_text(heap, low, high)?.as_str())?;
-            }
-        }
-        Step::Label(label) => text.push_str(exchange_text(heap, label)?.as_str())?,
-    }
-    text.push_str("\n")
 }
 
 // Every triangle, a line each, by the smallest dart.
 fn push_triangles(heap: Global, title: &str, board: &Board, text: &mut String) -> Result<(), AllocError> {
     text.push_str(title)?;
-    text.push_str("\n")?;
     for dart in 0..board.edges().saturating_mul(2) {
         if let Some(triangle) = Triangle::of(board, dart) {
             if triangle.first == dart {

@@ -6,7 +6,7 @@ mod tests {
     use walk_trace::trace::trace;
 
     // What is printed before the walk of the torus with one puncture is read.
-    const ONE: &str = "torus with 1 puncture, E = 3\nstart\n  0 2 5\n  1 3 4\n";
+    const ONE: &str = "torus, m = 1, E = 3\nstart\n  0 2 5\n  1 3 4\n";
 
     // The whole text.
     fn says(heap: Global, input: &[u8], text: &str) -> Result<(), Fail> {
@@ -80,7 +80,7 @@ mod tests {
     #[test]
     fn an_edge_that_is_not_flippable(rt: LibcRuntime) -> Result<(), Fail> {
         let input = [0u8, 2, 0x54, 0, 5, 0, 1, 0, 0, 0, 0, 0, 2, 0, 0, 3, 0, 0, 5, 0];
-        let mut text = String::from_str(rt.alloc(), "torus with 2 punctures, E = 6\nstart\n  0 8 5\n  1 3 4\n  2 11 6\n  7 9 10\nsteps: 5\n")?;
+        let mut text = String::from_str(rt.alloc(), "torus, m = 2, E = 6\nstart\n  0 8 5\n  1 3 4\n  2 11 6\n  7 9 10\nsteps: 5\n")?;
         text.push_str("  0: L 1 makes 1 11 3 and 2 6 4\n  1: L 0 makes 0 5 11 and 1 3 8\n")?;
         text.push_str("  2: L 2 makes 0 2 5 and 4 6 11\n  3: L 3 makes 4 9 6 and 7 10 11\nREFUSED 10 3 4\n")?;
         says(rt.alloc(), &input, text.as_str())
