@@ -117,7 +117,7 @@ meet xs e law w w′ yss zss p q r =
     }
 
 pub pentagon-walks : Pentagon-walks
-unfolding lawful-list flippable together flipped-by triangle relabelled
+unfolding lawful-list together flipped-by triangle relabelled
 pentagon-walks = record {
   from-five = meet row0 is-row0 law0 (L 5 ∷ L 6 ∷ L 5 ∷ L 6 ∷ L 5 ∷ []) (S 5 6 ∷ T 5 ∷ T 6 ∷ []) (row2 ∷ row3 ∷ row4 ∷ row5 ∷ row6 ∷ []) (row7 ∷ row8 ∷ row6 ∷ []) tt tt refl;
   from-five-turned = meet row1 is-row1 law1 (L 5 ∷ L 6 ∷ L 5 ∷ L 6 ∷ L 5 ∷ []) (S 5 6 ∷ []) (row9 ∷ row10 ∷ row11 ∷ row12 ∷ row13 ∷ []) (row13 ∷ []) tt tt refl;

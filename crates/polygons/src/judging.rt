@@ -73,3 +73,14 @@ pub(crate) fn first_fault(corners: u8, diagonals: &[Diagonal]) -> Option<Surface
     }
     None
 }
+
+/// The first fault of at most 30 diagonals of a polygon, in their order: 8 where one is none, 9 where it crosses or repeats an
+/// earlier one.
+pub fn judge_diagonals(corners: u8, diagonals: &[Diagonal]) -> Option<SurfaceFault>
+    ensures { λ r. ⌜ (length (now (diagonals .entry)) ≤ 30 → r ≡ first-fault corners (now (diagonals .entry))) ⌝ }
+{
+    if diagonals.len() > 30 {
+        return None;
+    }
+    first_fault(corners, diagonals)
+}

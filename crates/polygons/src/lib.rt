@@ -1,6 +1,6 @@
 //! Polygons cut into triangles along diagonals: the second surface behind the interface.
 pub mod darts;
-mod judging;
+pub mod judging;
 pub mod making;
 pub mod polygon;
 pub mod worked_walks;

@@ -141,7 +141,6 @@ module _ (φ : ℕ → ℕ) (n : ℕ) (different : Apart n φ) (t₀ : Table) (�
       ∙ (λ m. eqb-named φ n different j i hj hi m || (eqb-named φ n different j (σ i) hj (v .closed i hi) m || eqb-named φ n different j (σ (σ i)) hj (v .closed _ (v .closed i hi)) m))
 
   pub seen-flippable : (e i j : ℕ) → i < n → j < n → 2 * e ≡ φ i → 2 * e + 1 ≡ φ j → flippable t e ≡ not (tog σ i j)
-  unfolding flippable
   seen-flippable e i j hi hj di dj =
       (λ m. inside t (di m) && (inside t (dj m) && not (together t (di m) (dj m))))
       ∙ (λ m. seen-inside i hi m && (seen-inside j hj m && not (seen-together i j hi hj m)))
@@ -154,7 +153,6 @@ six t e =
 
 module _ (t : Triangulation) (law : Lawful t) (e : ℕ) (h : Yes (flippable (t .next) e)) where
   pub flip-parts : Yes (inside (t .next) (2 * e)) × Yes (inside (t .next) (2 * e + 1)) × Yes (not (together (t .next) (2 * e) (2 * e + 1)))
-  unfolding flippable
   flip-parts = (
     and-l (inside (t .next) (2 * e)) _ h,
     and-l (inside (t .next) (2 * e + 1)) _ (and-r (inside (t .next) (2 * e)) _ h),

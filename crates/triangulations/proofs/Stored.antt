@@ -8,15 +8,16 @@ use mathlib.Core.List.{List, [], _∷_}
 use mathlib.Core.Bool.{Bool, true, false, cond, not, _&&_, _||_}
 use lib.Dec.{eqb, eqb→eq, ltb→lt, lt→ltb}
 use lib.Dec.{T as Yes}
-use lib.ListN.{length, set, replicate}
+use lib.ListN.{length, set, replicate, length-set}
 use lib.Seq.{getD-set-same, getD-set-other}
 use borrow.Author.Tests.{eq-eqb, ne-eqb}
 use Rattle.std.specs.declared.option.Option.{Option}
 use Rattle.std.specs.declared.option.Option.the-variants.{None, Some}
 use Rattle.triangulations.specs.Triangulations.{Table, Lawful, after, is-some, inside}
 use Rattle.triangulations.specs.Steps.{triangle}
+use Rattle.std.proofs.shelf.Lists.{getD-past}
 use Rattle.triangulations.proofs.Frames.{at-below, after-is}
-use Rattle.triangulations.specs.Stored.{table-of, all-below, turns-back, lawful-test, within, covers, lawful-list}
+use Rattle.triangulations.specs.Stored.{table-of, written, all-below, turns-back, lawful-test, within, covers, lawful-list}
 use Rattle.triangulations.proofs.Flips.{some-none}
 use Rattle.triangulations.proofs.Pairs.{and-l, and-r, not-eqb}
 
@@ -28,24 +29,17 @@ table-set xs i v h d = go (ℕ-discrete d i)
     go (yes p) = ap (table-of (set xs i v)) p ∙ (getD-set-same xs i v None h ∙ sym (ap (λ b. cond b v (table-of xs d)) (eq-eqb d i p)))
     go (no p) = getD-set-other xs i d v None p ∙ sym (ap (λ b. cond b v (table-of xs d)) (ne-eqb d i p))
 
-length-kept : (xs : List (Option ℕ)) (i : ℕ) (v : Option ℕ) → length (set xs i v) ≡ length xs
-length-kept [] i v = refl
-length-kept (x ∷ xs) zero v = refl
-length-kept (x ∷ xs) (suc i) v = ap suc (length-kept xs i v)
-
 -- a triangle by three writes, that of x last
 pub table-triangle : (xs : List (Option ℕ)) (x y z : ℕ) → x < length xs → y < length xs → z < length xs
-    → table-of (set (set (set xs z (Some x)) y (Some z)) x (Some y)) ≡ triangle x y z (table-of xs)
+    → table-of (written x y z xs) ≡ triangle x y z (table-of xs)
 unfolding triangle
 table-triangle xs x y z hx hy hz = fun-ext (λ d.
-    table-set (set (set xs z (Some x)) y (Some z)) x (Some y) (subst (λ n. x < n) (sym (length-kept (set xs z (Some x)) y (Some z) ∙ length-kept xs z (Some x))) hx) d
-    ∙ ap (cond (eqb d x) (Some y)) (table-set (set xs z (Some x)) y (Some z) (subst (λ n. y < n) (sym (length-kept xs z (Some x))) hy) d
+    table-set (set (set xs z (Some x)) y (Some z)) x (Some y) (subst (λ n. x < n) (sym (length-set (set xs z (Some x)) y (Some z) ∙ length-set xs z (Some x))) hx) d
+    ∙ ap (cond (eqb d x) (Some y)) (table-set (set xs z (Some x)) y (Some z) (subst (λ n. y < n) (sym (length-set xs z (Some x))) hy) d
     ∙ ap (cond (eqb d y) (Some z)) (table-set xs z (Some x) hz d)))
 
 pub beyond : (xs : List (Option ℕ)) (d : ℕ) → length xs ≤ d → table-of xs d ≡ None
-beyond [] d h = refl
-beyond (x ∷ xs) zero h = absurd (omega arith)
-beyond (x ∷ xs) (suc d) h = beyond xs d (omega arith)
+beyond xs d h = getD-past xs d None h
 
 some-of : (r : Option ℕ) → Yes (is-some r) → (a : ℕ) × (r ≡ Some a)
 some-of None h = absurd h

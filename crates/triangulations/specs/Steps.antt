@@ -3,6 +3,7 @@ use Prim.Native.Nat.{ℕ, _+_, _*_, _%_, _<_}
 use mathlib.Core.List.{List, [], _∷_}
 use mathlib.Core.Bool.{cond}
 use lib.Dec.{eqb}
+use lib.ListN.{getD}
 use lib.Dec.{T as Yes}
 use Rattle.std.specs.declared.option.Option.{Option}
 use Rattle.std.specs.declared.option.Option.the-variants.{None, Some}
@@ -28,11 +29,22 @@ flip-step right e = R e
 unfoldable pub triangle : ℕ → ℕ → ℕ → Table → Table
 triangle x y z t d = cond (eqb d x) (Some y) (cond (eqb d y) (Some z) (cond (eqb d z) (Some x) (t d)))
 
--- the flip of the edge with the darts d and p, where d, a, b and p, c, g are its triangles:
--- a left flip makes the triangles d, b, c and p, g, a, and a right flip d, g, a and p, b, c
+-- the table with a triangle of three listed darts, in this order
+abbrev pub triangle-in : List ℕ → Table → Table
+triangle-in xs = triangle (getD xs 0 0) (getD xs 1 0) (getD xs 2 0)
+
+-- A flip of the edge with the darts d and p, where d, a, b and p, c, g are its triangles: a left flip makes d, b, c and p, g, a,
+-- and a right flip d, g, a and p, b, c. The one that it makes with d, and the one with p:
+abbrev pub with-d : Direction → (d a b c g : ℕ) → List ℕ
+with-d left d a b c g = d ∷ b ∷ c ∷ []
+with-d right d a b c g = d ∷ g ∷ a ∷ []
+
+abbrev pub with-p : Direction → (p a b c g : ℕ) → List ℕ
+with-p left p a b c g = p ∷ g ∷ a ∷ []
+with-p right p a b c g = p ∷ b ∷ c ∷ []
+
 unfoldable pub flipped-by : Direction → (d p a b c g : ℕ) → Table → Table
-flipped-by left d p a b c g t = triangle d b c (triangle p g a t)
-flipped-by right d p a b c g t = triangle d g a (triangle p b c t)
+flipped-by w d p a b c g t = triangle-in (with-d w d a b c g) (triangle-in (with-p w p a b c g) t)
 
 abbrev pub flipped : Direction → ℕ → ℕ → Table → Table
 flipped w d p t = flipped-by w d p (after t d) (after t (after t d)) (after t p) (after t (after t p)) t

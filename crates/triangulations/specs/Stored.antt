@@ -1,9 +1,9 @@
 -- Triangulations stored as lists of followers, and the laws as a test of such a list.
-use Prim.Native.Nat.{ℕ, zero, suc, _+_, _*_}
+use Prim.Native.Nat.{ℕ, zero, suc, _+_, _*_, _<_}
 use mathlib.Core.List.{List}
 use mathlib.Core.Bool.{Bool, true, not, _&&_, _||_}
 use lib.Dec.{eqb, ltb}
-use lib.ListN.{length, getD}
+use lib.ListN.{length, getD, set}
 use Rattle.std.specs.declared.option.Option.{Option}
 use Rattle.std.specs.declared.option.Option.the-variants.{None, Some}
 use Rattle.triangulations.specs.Triangulations.{Table, Triangulation, after, inside}
@@ -15,6 +15,14 @@ table-of xs d = getD xs d None
 -- the triangulation of n edges that a list stores
 abbrev pub stored : ℕ → List (Option ℕ) → Triangulation
 stored n xs = record { edges = n; next = table-of xs }
+
+-- a list of three darts, all below n
+abbrev pub Within : ℕ → List ℕ → Type 0
+Within n xs = (getD xs 0 0 < n) × (getD xs 1 0 < n) × (getD xs 2 0 < n)
+
+-- the list with a triangle x, y, z written into it
+abbrev pub written : (x y z : ℕ) → List (Option ℕ) → List (Option ℕ)
+written x y z xs = set (set (set xs z (Some x)) y (Some z)) x (Some y)
 
 -- whether p holds of each number below n
 abbrev pub all-below : ℕ → (ℕ → Bool) → Bool

@@ -45,15 +45,15 @@ unfoldable pub together : Table → ℕ → ℕ → Bool
 together t d x = eqb x d || (eqb x (after t d) || eqb x (after t (after t d)))
 
 -- whether both darts of e are inside, in different triangles
-unfoldable pub flippable : Table → ℕ → Bool
+abbrev pub flippable : Table → ℕ → Bool
 flippable t e = inside t (2 * e) && (inside t (2 * e + 1) && not (together t (2 * e) (2 * e + 1)))
 
 -- whether d is inside and a dart of f lies in its triangle
-unfoldable pub meets : Table → ℕ → ℕ → Bool
+abbrev pub meets : Table → ℕ → ℕ → Bool
 meets t d f = inside t d && (together t d (2 * f) || together t d (2 * f + 1))
 
 -- whether e and f share a triangle: a dart of each lies in it
-unfoldable pub shares : Table → ℕ → ℕ → Bool
+abbrev pub shares : Table → ℕ → ℕ → Bool
 shares t e f = meets t (2 * e) f || meets t (2 * e + 1) f
 
 -- the four laws of a triangulation, and no follower beyond the edges

@@ -1,12 +1,12 @@
 ghost use mathlib.Core.Path.{_≡_};
 ghost use mathlib.Core.Bool.{cond};
 ghost use Prim.Native.Nat.{ℕ, _<_, _≤_};
-ghost use lib.ListN.{length};
+ghost use lib.ListN.{length, getD};
 ghost use Rattle.std.specs.Orderings.{Decides};
 ghost use Rattle.triangulations.specs.Triangulations.{Lawful, after, inside, together, flippable, meets, shares, partner};
-ghost use Rattle.triangulations.specs.Steps.{triangle, exchanged, renamed, Legal-step, apply-step};
-ghost use Rattle.triangulations.specs.Stored.{table-of};
-ghost use Rattle.triangulations.specs.Meaning.{meant, meant-flip, meant-label, naming, Names-label};
+ghost use Rattle.triangulations.specs.Steps.{with-d, with-p, exchanged, renamed, Legal-step, apply-step};
+ghost use Rattle.triangulations.specs.Stored.{Within, written};
+ghost use Rattle.triangulations.specs.Meaning.{direction, meant, meant-flip, meant-label, naming, Names-label};
 ghost use Rattle.triangulations.specs.Boards.{table, on};
 use crate::board::Board;
 use crate::darts::Dart;
@@ -119,16 +119,8 @@ impl Board {
         let b = self.next(a);
         let c = self.next(p);
         let g = self.next(c);
-        match flip.side {
-            Side::Left => {
-                write_triangle(&mut self.next, p, g, a);
-                write_triangle(&mut self.next, d, b, c);
-            }
-            Side::Right => {
-                write_triangle(&mut self.next, p, b, c);
-                write_triangle(&mut self.next, d, g, a);
-            }
-        }
+        write_triangle(&mut self.next, with_p(flip.side, p, a, b, c, g));
+        write_triangle(&mut self.next, with_d(flip.side, d, a, b, c, g));
         true
     }
 
@@ -148,11 +140,32 @@ impl Board {
     }
 }
 
-// Writes the triangle of `x`, `y` and `z`, in this order.
-fn write_triangle(next: &mut [Option<Dart>], x: Dart, y: Dart, z: Dart)
-    requires { ⌜ (x < length (now next)) × (y < length (now next)) × (z < length (now next)) ⌝ }
-    ensures { λ _. ⌜ table-of (now (next .exit)) ≡ triangle x y z (table-of (now (next .entry))) ⌝ }
+// The triangle that a flip makes with d, where the triangles at its edge were d, a, b and p, c, g.
+fn with_d(side: Side, d: Dart, a: Dart, b: Dart, c: Dart, g: Dart) -> [Dart; 3]
+    ensures { λ r. ⌜ r ≡ with-d (direction side) d a b c g ⌝ }
 {
+    match side {
+        Side::Left => [d, b, c],
+        Side::Right => [d, g, a],
+    }
+}
+
+// The triangle that it makes with p.
+fn with_p(side: Side, p: Dart, a: Dart, b: Dart, c: Dart, g: Dart) -> [Dart; 3]
+    ensures { λ r. ⌜ r ≡ with-p (direction side) p a b c g ⌝ }
+{
+    match side {
+        Side::Left => [p, g, a],
+        Side::Right => [p, b, c],
+    }
+}
+
+// Writes a triangle by its darts in following order.
+fn write_triangle(next: &mut [Option<Dart>], darts: [Dart; 3])
+    requires { ⌜ Within (length (now next)) darts ⌝ }
+    ensures { λ _. ⌜ now (next .exit) ≡ written (getD darts 0 0) (getD darts 1 0) (getD darts 2 0) (now (next .entry)) ⌝ }
+{
+    let [x, y, z] = darts;
     next[z as usize] = Some(x);
     next[y as usize] = Some(z);
     next[x as usize] = Some(y);

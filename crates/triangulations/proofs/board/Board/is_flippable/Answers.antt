@@ -9,9 +9,7 @@ pub returns-then-edge-ge-MOST-EDGES : need.returns-then-edge-ge-MOST-EDGES
 returns-then-edge-ge-MOST-EDGES c = sym (flippable-past (c .args .self .now .next) (c .args .edge) (omega arith))
 
 pub returns-then-is-inside-2 : need.returns-then-is-inside-2
-unfolding flippable
 returns-then-is-inside-2 c = search needs
 
 pub returns-else-is-inside-2 : need.returns-else-is-inside-2
-unfolding flippable
 returns-else-is-inside-2 c = search needs

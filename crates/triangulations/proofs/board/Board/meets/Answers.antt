@@ -3,13 +3,10 @@ use Rattle.triangulations.specs.Triangulations.{meets}
 use Rattle.triangulations.proofs.board.Board.meets.Needs as need
 
 pub returns-then-together : need.returns-then-together
-unfolding meets
 returns-then-together c = search needs
 
 pub returns-else-together : need.returns-else-together
-unfolding meets
 returns-else-together c = search needs
 
 pub returns-else-is-inside : need.returns-else-is-inside
-unfolding meets
 returns-else-is-inside c = search needs

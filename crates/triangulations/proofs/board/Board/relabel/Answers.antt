@@ -11,7 +11,7 @@ use Rattle.triangulations.specs.Steps.{renamed, stepped}
 use Rattle.triangulations.specs.Stored.{table-of}
 use Rattle.triangulations.specs.Boards.{table, on}
 use Rattle.triangulations.specs.Meaning.{naming, meant-label}
-use Rattle.triangulations.proofs.Moved.{Kept, keeps, relabelled-board, meant-labelped, label-fine}
+use Rattle.triangulations.proofs.Moved.{Kept, keeps, relabelled-board, label-stepped, label-legal}
 use Rattle.triangulations.proofs.board.Board.relabel.Needs as need
 
 pub loop-d-again : need.loop-d-again
@@ -30,7 +30,7 @@ ghost-self c =
     let x = c .args .self .now in
     let h = c .if-not-names .ensures tt .0 refl in
     let e = relabelled-board x (c .args .label) h (c .loop-d .next) (c .loop-d .inv .0) (λ k l. c .loop-d .inv .1 k (omega arith)) in
-    let k = keeps x (meant-label (c .args .label)) (label-fine (c .args .label) (on x) h) (c .loop-d .next) (c .loop-d .inv .0 ∙ sym (x .full)) (e ∙ sym (meant-labelped (c .args .label) (table x))) in
+    let k = keeps x (meant-label (c .args .label)) (c .loop-d .next) (label-legal (c .args .label) (on x) h) (c .loop-d .inv .0 ∙ sym (x .full)) (e ∙ sym (label-stepped (c .args .label) (table x))) in
     (k .few, (k .full, (k .lawful, tt)))
 
 pub returns : need.returns
@@ -38,5 +38,5 @@ returns c =
     let x = c .args .self .now in
     let h = c .if-not-names .ensures tt .0 refl in
     let e = relabelled-board x (c .args .label) h (c .loop-d .next) (c .loop-d .inv .0) (λ k l. c .loop-d .inv .1 k (omega arith)) in
-    let k = keeps x (meant-label (c .args .label)) (label-fine (c .args .label) (on x) h) (c .loop-d .next) (c .loop-d .inv .0 ∙ sym (x .full)) (e ∙ sym (meant-labelped (c .args .label) (table x))) in
+    let k = keeps x (meant-label (c .args .label)) (c .loop-d .next) (label-legal (c .args .label) (on x) h) (c .loop-d .inv .0 ∙ sym (x .full)) (e ∙ sym (label-stepped (c .args .label) (table x))) in
     record { legal = (λ _. h, λ _. refl); moved = k .moved }

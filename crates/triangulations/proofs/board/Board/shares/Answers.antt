@@ -13,9 +13,7 @@ returns-then-e-ge-MOST-EDGES c =
     ⊎-elim (λ h. sym (shares-none x e f h)) (λ h. sym (shares-past x e f (h .1))) (c .then-e-ge-MOST-EDGES .either)
 
 pub returns-then-meets : need.returns-then-meets
-unfolding shares
 returns-then-meets c = search needs
 
 pub returns-else-meets : need.returns-else-meets
-unfolding shares
 returns-else-meets c = search needs

@@ -1,0 +1,4 @@
+pub mod Refusals
+pub mod Reading
+pub mod Records
+pub mod Sections

@@ -1,0 +1,4 @@
+pub mod Field
+pub mod Flips
+pub mod Consequences
+pub mod Models

@@ -1,0 +1,5 @@
+pub mod Pages
+pub mod Weights
+pub mod Divisors
+pub mod Fractions
+pub mod Worked
