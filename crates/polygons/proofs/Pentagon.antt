@@ -13,7 +13,7 @@ use Rattle.polygon_counting.proofs.Laws.{cut-into-triangles}
 use Rattle.polygons.specs.Judging.{first-fault}
 use Rattle.polygons.specs.WorkedWalks.{pentagon, turned-pentagon, Meet, Pentagon-walks}
 use Rattle.polygons.proofs.Admission.{uncrossed}
-use Rattle.polygons.proofs.Rows.{Row, agree, same-triangulation, passes, last-of, arrives}
+use Rattle.polygons.proofs.Rows.{Row, same-triangulation, passes, last-of, arrives}
 
 abbrev row0 : Row
 row0 = Some 2 ∷ None ∷ Some 11 ∷ None ∷ Some 13 ∷ None ∷ Some 8 ∷ None ∷ Some 12 ∷ None ∷ Some 4 ∷ Some 0 ∷ Some 6 ∷ Some 10 ∷ []

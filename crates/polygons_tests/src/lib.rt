@@ -8,6 +8,7 @@ mod tests {
     use polygon_counting::diagonal::Diagonal;
     use polygons::darts::PolygonSurface;
     use polygons::polygon::Polygon;
+    use polygons::worked_walks::pentagon_walks;
     use std::alloc::Global;
     use std::test::*;
     use surfaces::faults::SurfaceFault;
@@ -19,6 +20,10 @@ mod tests {
     use surfaces::loading::load;
     use surfaces::surface_trait::Surface;
     use triangulations::board::Board;
+    use triangulations::step::Flip;
+    use triangulations::step::Label;
+    use triangulations::step::Side;
+    use triangulations::step::Step;
 
     fn make(
         heap: Global,
@@ -142,6 +147,47 @@ mod tests {
     fn thirty_three_corners(rt: LibcRuntime) -> Result<(), Fail> {
         cut(rt.alloc(), 33, &cases::FAN, &cases::FAN_TRIANGLES)?;
         cut(rt.alloc(), 33, &cases::ZIGZAG, &cases::ZIGZAG_TRIANGLES)
+    }
+
+    fn left(edge: u8) -> Step {
+        Step::Flip(Flip {
+            side: Side::Left,
+            edge,
+        })
+    }
+
+    // The board after these steps on the pentagon with the diagonals 0–2 and 0–3.
+    fn after_steps(heap: Global, steps: &[Step]) -> Result<Board, Fail> {
+        let polygon = make(heap, 5, &[[0, 2], [0, 3]])??;
+        let mut board = Board::new();
+        load(&polygon, &mut board);
+        for step in steps {
+            check(board.step(*step))?;
+        }
+        Ok(board)
+    }
+
+    fn agree(a: &Board, b: &Board) -> Result<(), Fail> {
+        check_eq(a.edges(), b.edges())?;
+        for dart in 0..=255u8 {
+            check_eq(a.after(dart), b.after(dart))?;
+        }
+        Ok(())
+    }
+
+    #[test]
+    fn five_flips_of_a_pentagon(rt: LibcRuntime) -> Result<(), Fail> {
+        let heap = rt.alloc();
+        let flips = after_steps(heap, &[left(5), left(6), left(5), left(6), left(5)])?;
+        for (dart, next) in pentagon_walks().iter().enumerate() {
+            check_eq(flips.after(u8::try_from(dart)?), *next)?;
+        }
+        let swap = Step::Label(Label::Swap(5, 6));
+        let turn_5 = Step::Label(Label::Turn(5));
+        let turn_6 = Step::Label(Label::Turn(6));
+        agree(&flips, &after_steps(heap, &[swap, turn_5, turn_6])?)?;
+        let turned = after_steps(heap, &[turn_5, left(5), left(6), left(5), left(6), left(5)])?;
+        agree(&turned, &after_steps(heap, &[turn_5, swap])?)
     }
 
     #[test]
