@@ -1,5 +1,5 @@
 #!/usr/bin/env python3
-"""Writes crates/polygons_tests/src/cases.rt: triangulated polygons and the darts of their triangles.
+"""Writes crates/polygons_tests/src/cases.rt: triangulated polygons and the darts of their triangles. Run `rt fmt` after it.
 
 The triangles are found as the triples of corners that are joined pairwise, and the triangulations of the heptagon by joining a side
 to each other corner, so that nothing is shared with the crate under test.

@@ -1,9 +1,9 @@
 -- A polygon with three diagonals fewer than corners, no two of which cross, has a lawful table.
 use mathlib.Core.Path.{_≡_, refl, sym, _∙_, ap, ap₂, subst, subst₂}
-use mathlib.Core.Bool.{Bool, true, false, cond, not, _&&_, _||_}
+use mathlib.Core.Bool.{true, _&&_}
 use mathlib.Core.Logic.{_⊎_, inl, inr}
 use mathlib.Core.List.{List}
-use Prim.Native.Nat.{ℕ, zero, suc, _+_, _-_, _*_, _/_, _%_, _≤_, _<_}
+use Prim.Native.Nat.{ℕ, _+_, _-_, _*_, _/_, _%_, _≤_, _<_}
 use native.Mathlib.Omega.{arith}
 use lib.Dec.{ltb, eqb}
 use lib.ListN.{length}
@@ -11,15 +11,14 @@ use Rattle.std.proofs.shelf.Tests.{cases-lt, cases-eq, cond-true, cond-false, l
 use Rattle.std.specs.Options.{isSome}
 use Rattle.std.specs.declared.option.Option.{Option}
 use Rattle.std.specs.declared.option.Option.the-variants.{Some, None}
-use Rattle.triangulations.specs.Triangulations.{Triangulation, Lawful, edge-of}
 use Rattle.polygon_counting.specs.declared.diagonal.Diagonal.{Diagonal}
 use Rattle.polygon_counting.specs.Diagonals.{at, Uncrossed}
-use Rattle.polygon_counting.specs.Polygons.{first-below, and-then, onward, between, joins, diagonal-dart, dart-to, joined, closes, apex, following, ends, polygon-next, polygon}
+use Rattle.polygon_counting.specs.Polygons.{first-below, and-then, onward, between, joins, diagonal-dart, dart-to, joined, closes, apex, following, ends, polygon-next}
 use Rattle.polygon_counting.specs.Theorem.{Closed, Triangulated, Cut-into-triangles}
 use Rattle.polygon_counting.proofs.Searching.{Tells, search-tells, only-found}
 use Rattle.polygon_counting.proofs.Cases.{onward-less, onward-last, onward-is, by-diagonal, dart-side, dart-other, ends-inside, ends-outside, ends-up, ends-down, ends-past}
 use Rattle.polygon_counting.proofs.Order.{Between, Order, between-from, between-to, between-turn, between-apart, order}
-use Rattle.polygon_counting.proofs.Counting.{Admissible, Diag, Chord, Base, Inner, Outer, last-inner, diag-around, diag-inner, side-outer}
+use Rattle.polygon_counting.proofs.Counting.{Admissible, Chord, Base, Inner, Outer, last-inner, diag-around, diag-inner, side-outer}
 use Rattle.polygon_counting.proofs.Admitted.{low-of, high-of, admissible}
 
 some-not-none : {A B : Type 0} {o : Option A} {x : A} → o ≡ Some x → o ≡ None → B

@@ -45,6 +45,7 @@ dart-to n ds u v =
     cond (eqb v (onward n u)) (Some (2 * u))
     (and-then (first-below (length ds) (λ k. joins u v (at ds k))) (λ k. Some (diagonal-dart n u v k)))
 
+-- whether an inside dart runs from u to v
 abbrev pub joined : ℕ → List Diagonal → ℕ → ℕ → Bool
 joined n ds u v = isSome (dart-to n ds u v)
 
@@ -64,6 +65,7 @@ following n ds u v = and-then (apex n ds u v) (λ w. dart-to n ds v w)
 abbrev pub side-ends : ℕ → ℕ → Bool → Option (ℕ × ℕ)
 side-ends n i even = cond even (Some (i, onward n i)) None
 
+-- those of the even or the odd dart of a diagonal
 abbrev pub diagonal-ends : Diagonal → Bool → ℕ × ℕ
 diagonal-ends a even = cond even (a .low, a .high) (a .high, a .low)
 
@@ -73,6 +75,7 @@ ends n ds d =
     cond (ltb (edge-of d) n) (side-ends n (edge-of d) (eqb (d % 2) 0))
     (cond (ltb (edge-of d) (n + length ds)) (Some (diagonal-ends (at ds (edge-of d - n)) (eqb (d % 2) 0))) None)
 
+-- the dart that follows d, where d is inside
 unfoldable pub polygon-next : ℕ → List Diagonal → ℕ → Option ℕ
 polygon-next n ds d = and-then (ends n ds d) (λ e. following n ds (e .0) (e .1))
 

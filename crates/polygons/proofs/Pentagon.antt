@@ -3,7 +3,7 @@ use mathlib.Core.Path.{_≡_, refl, sym, _∙_, ap, subst}
 use mathlib.Core.List.{List, [], _∷_}
 use lib.Dec.{T as Yes}
 use Rattle.std.specs.declared.option.Option.the-variants.{None, Some}
-use Rattle.triangulations.specs.Triangulations.{Triangulation, Lawful, flippable, together}
+use Rattle.triangulations.specs.Triangulations.{Triangulation, Lawful, together}
 use Rattle.triangulations.specs.Steps.{Step, L, T, S, Legal, leads, triangle, flipped-by, relabelled}
 use Rattle.triangulations.specs.Stored.{stored, lawful-list}
 use Rattle.triangulations.proofs.Stored.{lawful-from-list}
@@ -13,7 +13,7 @@ use Rattle.polygon_counting.proofs.Laws.{cut-into-triangles}
 use Rattle.polygons.specs.Judging.{first-fault}
 use Rattle.polygons.specs.WorkedWalks.{pentagon, turned-pentagon, Meet, Pentagon-walks}
 use Rattle.polygons.proofs.Admission.{uncrossed}
-use Rattle.polygons.proofs.Rows.{Row, agree, same-triangulation, passes, last-of, arrives}
+use Rattle.polygons.proofs.Rows.{Row, same-triangulation, passes, last-of, arrives}
 
 abbrev row0 : Row
 row0 = Some 2 ∷ None ∷ Some 11 ∷ None ∷ Some 13 ∷ None ∷ Some 8 ∷ None ∷ Some 12 ∷ None ∷ Some 4 ∷ Some 0 ∷ Some 6 ∷ Some 10 ∷ []
@@ -33,7 +33,7 @@ row4 = Some 12 ∷ None ∷ Some 10 ∷ None ∷ Some 6 ∷ None ∷ Some 11 ∷
 abbrev row5 : Row
 row5 = Some 2 ∷ None ∷ Some 12 ∷ None ∷ Some 6 ∷ None ∷ Some 11 ∷ None ∷ Some 13 ∷ None ∷ Some 8 ∷ Some 4 ∷ Some 0 ∷ Some 10 ∷ []
 
-abbrev row6 : Row
+abbrev pub row6 : Row
 row6 = Some 2 ∷ None ∷ Some 12 ∷ None ∷ Some 10 ∷ None ∷ Some 8 ∷ None ∷ Some 11 ∷ None ∷ Some 13 ∷ Some 6 ∷ Some 0 ∷ Some 4 ∷ []
 
 abbrev row7 : Row
@@ -124,3 +124,8 @@ pentagon-walks = record {
   from-six = meet row0 is-row0 law0 (L 6 ∷ L 5 ∷ L 6 ∷ L 5 ∷ L 6 ∷ []) (S 5 6 ∷ T 5 ∷ []) (row14 ∷ row15 ∷ row16 ∷ row17 ∷ row8 ∷ []) (row7 ∷ row8 ∷ []) tt tt refl;
   from-six-turned = meet row1 is-row1 law1 (L 6 ∷ L 5 ∷ L 6 ∷ L 5 ∷ L 6 ∷ []) (S 5 6 ∷ T 6 ∷ []) (row18 ∷ row19 ∷ row20 ∷ row21 ∷ row7 ∷ []) (row13 ∷ row7 ∷ []) tt tt refl;
 }
+
+-- where the first of these walks ends
+pub five-flips : stored 7 row6 ≡ leads (L 5 ∷ L 6 ∷ L 5 ∷ L 6 ∷ L 5 ∷ []) pentagon
+unfolding lawful-list together flipped-by triangle relabelled
+five-flips = sym (ap (leads (L 5 ∷ L 6 ∷ L 5 ∷ L 6 ∷ L 5 ∷ [])) is-row0 ∙ arrives (L 5 ∷ L 6 ∷ L 5 ∷ L 6 ∷ L 5 ∷ []) row0 (row2 ∷ row3 ∷ row4 ∷ row5 ∷ row6 ∷ []) law0 tt .1)

@@ -32,7 +32,11 @@ impl Polygon {
         let edge = dart / 2;
         let even = dart % 2 == 0;
         if edge < self.corners {
-            return if even { Some((edge, self.onward(edge))) } else { None };
+            return if even {
+                Some((edge, self.onward(edge)))
+            } else {
+                None
+            };
         }
         if edge >= 2 * self.corners - 3 {
             return None;
@@ -99,7 +103,11 @@ impl Polygon {
         requires { ⌜ corner < now self .corners ⌝ }
         ensures { λ r. ⌜ r ≡ onward (now (self .entry) .corners) corner ⌝ }
     {
-        if corner + 1 == self.corners { 0 } else { corner + 1 }
+        if corner + 1 == self.corners {
+            0
+        } else {
+            corner + 1
+        }
     }
 }
 
@@ -107,7 +115,11 @@ impl Polygon {
 fn is_between(v: Corner, w: Corner, u: Corner) -> bool
     ensures { λ r. ⌜ r ≡ between v w u ⌝ }
 {
-    if v < u { v < w && w < u } else { v < w || w < u }
+    if v < u {
+        v < w && w < u
+    } else {
+        v < w || w < u
+    }
 }
 
 fn does_join(u: Corner, v: Corner, diagonal: Diagonal) -> bool

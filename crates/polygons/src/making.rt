@@ -24,7 +24,10 @@ impl Polygon {
         if let Some(fault) = first_fault(corners, diagonals) {
             return Err(fault);
         }
-        Ok(Polygon { corners, diagonals: stored(diagonals) })
+        Ok(Polygon {
+            corners,
+            diagonals: stored(diagonals),
+        })
     }
 
     /// How many corners it has.

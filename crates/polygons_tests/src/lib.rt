@@ -8,19 +8,34 @@ mod tests {
     use polygon_counting::diagonal::Diagonal;
     use polygons::darts::PolygonSurface;
     use polygons::polygon::Polygon;
+    use polygons::worked_walks::pentagon_walks;
     use std::alloc::Global;
     use std::test::*;
     use surfaces::faults::SurfaceFault;
+    use surfaces::faults::SurfaceFault::CountOutside;
+    use surfaces::faults::SurfaceFault::Crosses;
+    use surfaces::faults::SurfaceFault::NotDiagonal;
     use surfaces::faults::SurfaceFaultDebug;
     use surfaces::faults::SurfaceFaultPartialEq;
     use surfaces::loading::load;
     use surfaces::surface_trait::Surface;
     use triangulations::board::Board;
+    use triangulations::step::Flip;
+    use triangulations::step::Label;
+    use triangulations::step::Side;
+    use triangulations::step::Step;
 
-    fn make(heap: Global, corners: u16, pairs: &[[u8; 2]]) -> Result<Result<Polygon, SurfaceFault>, Fail> {
+    fn make(
+        heap: Global,
+        corners: u16,
+        pairs: &[[u8; 2]],
+    ) -> Result<Result<Polygon, SurfaceFault>, Fail> {
         let mut diagonals = Vec::new(heap);
         for [low, high] in pairs {
-            diagonals.push(Diagonal { low: *low, high: *high })?;
+            diagonals.push(Diagonal {
+                low: *low,
+                high: *high,
+            })?;
         }
         Ok(Polygon::new(corners, diagonals.as_slice()))
     }
@@ -41,7 +56,12 @@ mod tests {
         check_eq(board.after(4 * corners - 6), None)
     }
 
-    fn cut(heap: Global, corners: u8, pairs: &[[u8; 2]], triangles: &[[u8; 3]]) -> Result<(), Fail> {
+    fn cut(
+        heap: Global,
+        corners: u8,
+        pairs: &[[u8; 2]],
+        triangles: &[[u8; 3]],
+    ) -> Result<(), Fail> {
         let polygon = make(heap, u16::from(corners), pairs)??;
         check_eq(polygon.corners(), corners)?;
         check_eq(polygon.diagonals().len(), pairs.len())?;
@@ -54,7 +74,12 @@ mod tests {
         holds(&board, corners, triangles)
     }
 
-    fn refuses(heap: Global, corners: u16, pairs: &[[u8; 2]], fault: SurfaceFault) -> Result<(), Fail> {
+    fn refuses(
+        heap: Global,
+        corners: u16,
+        pairs: &[[u8; 2]],
+        fault: SurfaceFault,
+    ) -> Result<(), Fail> {
         match make(heap, corners, pairs)? {
             Ok(_) => Err(Fail::new("granted")),
             Err(found) => check_eq(found, fault),
@@ -75,12 +100,19 @@ mod tests {
     // The diagonals of the inner triangle share corners, and do not cross.
     #[test]
     fn a_hexagon_with_an_inner_triangle(rt: LibcRuntime) -> Result<(), Fail> {
-        cut(rt.alloc(), 6, &[[2, 4], [0, 4], [0, 2]], &[[0, 2, 17], [4, 6, 13], [8, 10, 14], [16, 12, 15]])
+        cut(
+            rt.alloc(),
+            6,
+            &[[2, 4], [0, 4], [0, 2]],
+            &[[0, 2, 17], [4, 6, 13], [8, 10, 14], [16, 12, 15]],
+        )
     }
 
     #[test]
     fn every_heptagon(rt: LibcRuntime) -> Result<(), Fail> {
-        for (pairs, triangles) in cases::HEPTAGONS.iter().zip(cases::HEPTAGON_TRIANGLES.iter()) {
+        for (pairs, triangles) in cases::HEPTAGONS
+            .iter()
+            .zip(cases::HEPTAGON_TRIANGLES.iter()) {
             cut(rt.alloc(), 7, pairs, triangles)?;
         }
         Ok(())
@@ -117,49 +149,90 @@ mod tests {
         cut(rt.alloc(), 33, &cases::ZIGZAG, &cases::ZIGZAG_TRIANGLES)
     }
 
+    fn left(edge: u8) -> Step {
+        Step::Flip(Flip {
+            side: Side::Left,
+            edge,
+        })
+    }
+
+    // The board after these steps on the pentagon with the diagonals 0–2 and 0–3.
+    fn after_steps(heap: Global, steps: &[Step]) -> Result<Board, Fail> {
+        let polygon = make(heap, 5, &[[0, 2], [0, 3]])??;
+        let mut board = Board::new();
+        load(&polygon, &mut board);
+        for step in steps {
+            check(board.step(*step))?;
+        }
+        Ok(board)
+    }
+
+    fn agree(a: &Board, b: &Board) -> Result<(), Fail> {
+        check_eq(a.edges(), b.edges())?;
+        for dart in 0..=255u8 {
+            check_eq(a.after(dart), b.after(dart))?;
+        }
+        Ok(())
+    }
+
+    #[test]
+    fn five_flips_of_a_pentagon(rt: LibcRuntime) -> Result<(), Fail> {
+        let heap = rt.alloc();
+        let flips = after_steps(heap, &[left(5), left(6), left(5), left(6), left(5)])?;
+        for (dart, next) in pentagon_walks().iter().enumerate() {
+            check_eq(flips.after(u8::try_from(dart)?), *next)?;
+        }
+        let swap = Step::Label(Label::Swap(5, 6));
+        let turn_5 = Step::Label(Label::Turn(5));
+        let turn_6 = Step::Label(Label::Turn(6));
+        agree(&flips, &after_steps(heap, &[swap, turn_5, turn_6])?)?;
+        let turned = after_steps(heap, &[turn_5, left(5), left(6), left(5), left(6), left(5)])?;
+        agree(&turned, &after_steps(heap, &[turn_5, swap])?)
+    }
+
     #[test]
     fn counts(rt: LibcRuntime) -> Result<(), Fail> {
         let heap = rt.alloc();
         for corners in [0u16, 1, 2, 34, 256 + 3, 65535] {
-            refuses(heap, corners, &[], SurfaceFault::CountOutside)?;
+            refuses(heap, corners, &[], CountOutside)?;
         }
-        refuses(heap, 34, &cases::FAN, SurfaceFault::CountOutside)?;
-        refuses(heap, 3, &[[0, 2]], SurfaceFault::CountOutside)?;
-        refuses(heap, 5, &[[0, 2]], SurfaceFault::CountOutside)?;
-        refuses(heap, 5, &[[0, 2], [0, 3], [0, 2]], SurfaceFault::CountOutside)?;
-        refuses(heap, 5, &[[1, 0]], SurfaceFault::CountOutside).note("the counts are judged first")
+        refuses(heap, 34, &cases::FAN, CountOutside)?;
+        refuses(heap, 3, &[[0, 2]], CountOutside)?;
+        refuses(heap, 5, &[[0, 2]], CountOutside)?;
+        refuses(heap, 5, &[[0, 2], [0, 3], [0, 2]], CountOutside)?;
+        refuses(heap, 5, &[[1, 0]], CountOutside).note("the counts are judged first")
     }
 
     #[test]
     fn pairs_that_are_no_diagonals(rt: LibcRuntime) -> Result<(), Fail> {
         let heap = rt.alloc();
-        refuses(heap, 4, &[[2, 0]], SurfaceFault::NotDiagonal(0)).note("falling")?;
-        refuses(heap, 4, &[[2, 2]], SurfaceFault::NotDiagonal(0)).note("a corner twice")?;
-        refuses(heap, 4, &[[0, 4]], SurfaceFault::NotDiagonal(0)).note("no corner")?;
-        refuses(heap, 4, &[[200, 255]], SurfaceFault::NotDiagonal(0)).note("no corners")?;
-        refuses(heap, 4, &[[0, 1]], SurfaceFault::NotDiagonal(0)).note("a side")?;
-        refuses(heap, 4, &[[2, 3]], SurfaceFault::NotDiagonal(0)).note("the side before the last")?;
-        refuses(heap, 4, &[[0, 3]], SurfaceFault::NotDiagonal(0)).note("the last side")?;
-        refuses(heap, 6, &[[0, 2], [0, 3], [0, 5]], SurfaceFault::NotDiagonal(2))?;
-        refuses(heap, 6, &[[0, 2], [3, 2], [0, 2]], SurfaceFault::NotDiagonal(1)).note("in their order")?;
-        refuses(heap, 6, &[[1, 4], [4, 1], [0, 2]], SurfaceFault::NotDiagonal(1)).note("8 before 9")
+        refuses(heap, 4, &[[2, 0]], NotDiagonal(0)).note("falling")?;
+        refuses(heap, 4, &[[2, 2]], NotDiagonal(0)).note("a corner twice")?;
+        refuses(heap, 4, &[[0, 4]], NotDiagonal(0)).note("no corner")?;
+        refuses(heap, 4, &[[200, 255]], NotDiagonal(0)).note("no corners")?;
+        refuses(heap, 4, &[[0, 1]], NotDiagonal(0)).note("a side")?;
+        refuses(heap, 4, &[[2, 3]], NotDiagonal(0)).note("the side before the last")?;
+        refuses(heap, 4, &[[0, 3]], NotDiagonal(0)).note("the last side")?;
+        refuses(heap, 6, &[[0, 2], [0, 3], [0, 5]], NotDiagonal(2))?;
+        refuses(heap, 6, &[[0, 2], [3, 2], [0, 2]], NotDiagonal(1)).note("in their order")?;
+        refuses(heap, 6, &[[1, 4], [4, 1], [0, 2]], NotDiagonal(1)).note("8 before 9")
     }
 
     #[test]
     fn diagonals_that_clash(rt: LibcRuntime) -> Result<(), Fail> {
         let heap = rt.alloc();
-        refuses(heap, 5, &[[0, 2], [0, 2]], SurfaceFault::Crosses(1)).note("repeats")?;
-        refuses(heap, 5, &[[0, 2], [1, 3]], SurfaceFault::Crosses(1))?;
-        refuses(heap, 5, &[[1, 3], [0, 2]], SurfaceFault::Crosses(1))?;
-        refuses(heap, 6, &[[0, 3], [0, 2], [1, 4]], SurfaceFault::Crosses(2)).note("the first of them")?;
-        refuses(heap, 6, &[[0, 2], [2, 4], [2, 4]], SurfaceFault::Crosses(2))?;
-        refuses(heap, 6, &[[0, 2], [1, 3], [0, 1]], SurfaceFault::Crosses(1)).note("in their order")
+        refuses(heap, 5, &[[0, 2], [0, 2]], Crosses(1)).note("repeats")?;
+        refuses(heap, 5, &[[0, 2], [1, 3]], Crosses(1))?;
+        refuses(heap, 5, &[[1, 3], [0, 2]], Crosses(1))?;
+        refuses(heap, 6, &[[0, 3], [0, 2], [1, 4]], Crosses(2)).note("the first of them")?;
+        refuses(heap, 6, &[[0, 2], [2, 4], [2, 4]], Crosses(2))?;
+        refuses(heap, 6, &[[0, 2], [1, 3], [0, 1]], Crosses(1)).note("in their order")
     }
 
     #[test]
     fn numbers() -> Result<(), Fail> {
-        check_eq(SurfaceFault::CountOutside.number(), 4)?;
-        check_eq(SurfaceFault::NotDiagonal(29).number(), 8)?;
-        check_eq(SurfaceFault::Crosses(29).number(), 9)
+        check_eq(CountOutside.number(), 4)?;
+        check_eq(NotDiagonal(29).number(), 8)?;
+        check_eq(Crosses(29).number(), 9)
     }
 }

@@ -1,7 +1,6 @@
-use mathlib.Core.Path.{_≡_, _∙_, ap}
 use mathlib.Core.List.{List}
 use native.Mathlib.Omega.{arith}
-use Prim.Native.Nat.{ℕ, _-_}
+use Prim.Native.Nat.{_-_}
 use lib.ListN.{length, replicate}
 use Rattle.polygon_counting.specs.declared.diagonal.Diagonal.{Diagonal}
 use Rattle.polygons.proofs.Storing.{front-written, length-written}

@@ -1,4 +1,4 @@
-use mathlib.Core.Path.{_≡_, sym, _∙_}
+use mathlib.Core.Path.{sym, _∙_}
 use Rattle.polygons.proofs.Shape.{ends-below, next-outside, next-open, next-closed}
 use Rattle.polygons.proofs.darts.PolygonSurface.after.Needs as need
 

@@ -6,7 +6,7 @@ use borrow.Author.Needs.{needs}
 use lib.Dec.{ltb}
 use Rattle.std.proofs.shelf.Tests.{cond-true, cond-false, lt-ltb, le-ltb}
 use Rattle.std.specs.declared.option.Option.{Option}
-use Rattle.std.specs.declared.option.Option.the-variants.{Some, None}
+use Rattle.std.specs.declared.option.Option.the-variants.{Some}
 use Rattle.polygon_counting.specs.Polygons.{and-then, diagonal-dart}
 use Rattle.polygon_counting.proofs.Cases.{dart-side, dart-other}
 use Rattle.polygons.specs.Meaning.{cut-by}
