@@ -22,5 +22,5 @@ pub polygon-read : (start n : ℕ) (p : Position) (ds : List Diagonal) (t : Tria
     → polygon-at start n p ≡ Ok (t, record { size = p .size; rest = rest })
 polygon-read start n p ds t rest is none enough means left =
     (λ i. refused-by start ((ap (first-fault n) (sym is) ∙ none) i)
-      (refused-if (le-ltb (length (p .rest)) (2 * (n - 3)) enough i) (EndsEarly (p .size))
-      (Ok ((ap (polygon n) (sym is) ∙ means) i, record { size = p .size; rest = left i }))))
+    (refused-if (le-ltb (length (p .rest)) (2 * (n - 3)) enough i) (EndsEarly (p .size))
+    (Ok ((ap (polygon n) (sym is) ∙ means) i, record { size = p .size; rest = left i }))))

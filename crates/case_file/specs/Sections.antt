@@ -68,9 +68,9 @@ abbrev pub surface-at : Position → Result (Triangulation × Position) Refusal
 surface-at p =
     then (count-at p) (λ n. then (mark-at (n .1)) (λ m.
     cond (eqb (m .0) 0x50)
-      (refused-if (outside 3 33 (n .0)) (CountOutside (offset p)) (polygon-at (offset p) (n .0) (m .1)))
+    (refused-if (outside 3 33 (n .0)) (CountOutside (offset p)) (polygon-at (offset p) (n .0) (m .1)))
     (cond (eqb (m .0) 0x54)
-      (refused-if (outside 1 21 (n .0)) (CountOutside (offset p)) (Ok (torus (n .0), m .1)))
+    (refused-if (outside 1 21 (n .0)) (CountOutside (offset p)) (Ok (torus (n .0), m .1)))
     (Err (UnknownMark (offset (n .1)))))))
 
 -- a section of records of so many bytes, passed over unjudged

@@ -17,7 +17,10 @@ impl<'a> Cursor<'a> {
         ensures size { λ r. ⌜ position r .size ≡ length (now (file .entry)) ⌝ }
         ensures rest { λ r. ⌜ position r .rest ≡ now (file .entry) ⌝ }
     {
-        Cursor { size: file.len(), rest: file }
+        Cursor {
+            size: file.len(),
+            rest: file,
+        }
     }
 
     /// How many bytes lie before what is left.

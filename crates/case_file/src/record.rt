@@ -7,8 +7,16 @@ use crate::refusal::Refusal;
 /// A record as it lies in the file: its offset, and its bytes, which are those of the file.
 #[derive(Clone, Copy)]
 pub enum Record<'a> {
-    Step { offset: usize, code: &'a u8, e: &'a u8, f: &'a u8 },
-    Value { offset: usize, bytes: &'a [u8] },
+    Step {
+        offset: usize,
+        code: &'a u8,
+        e: &'a u8,
+        f: &'a u8,
+    },
+    Value {
+        offset: usize,
+        bytes: &'a [u8],
+    },
 }
 
 /// Reads the next step record, whole.

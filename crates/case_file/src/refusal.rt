@@ -56,10 +56,14 @@ impl Refusal {
         ensures { λ r. ⌜ r ≡ refusal-layer self ⌝ }
     {
         match self {
-            Refusal::EndsEarly { .. } | Refusal::UnknownMark { .. } | Refusal::CountOutside { .. } => 1,
+            Refusal::EndsEarly { .. }
+            | Refusal::UnknownMark { .. }
+            | Refusal::CountOutside { .. } => 1,
             Refusal::NotDiagonal { .. } | Refusal::Crosses { .. } => 2,
             Refusal::StepRecord { .. } | Refusal::NotFlippable { .. } => 3,
-            Refusal::NotNumber { .. } | Refusal::NoStoredResult { .. } | Refusal::ValueCount { .. } => 6,
+            Refusal::NotNumber { .. }
+            | Refusal::NoStoredResult { .. }
+            | Refusal::ValueCount { .. } => 6,
         }
     }
 

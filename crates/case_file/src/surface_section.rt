@@ -97,7 +97,10 @@ fn pairs_in(wanted: usize, bytes: &[u8]) -> ([Diagonal; 30], usize)
     let count = wanted.min(bytes.len() / 2);
     let mut pairs = [Diagonal { low: 0, high: 0 }; 30];
     for k in 0..count {
-        pairs[k] = Diagonal { low: bytes[2 * k], high: bytes[2 * k + 1] };
+        pairs[k] = Diagonal {
+            low: bytes[2 * k],
+            high: bytes[2 * k + 1],
+        };
     }
     (pairs, count)
 }

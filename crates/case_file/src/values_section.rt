@@ -34,7 +34,11 @@ pub fn read_values_head(from: &mut Cursor) -> Result<ValuesHead, Refusal>
     let count = from.count()?;
     let offset = from.offset();
     let mark = from.mark()?;
-    Ok(ValuesHead { count, mark, offset })
+    Ok(ValuesHead {
+        count,
+        mark,
+        offset,
+    })
 }
 
 /// Reads the value with this index.

@@ -15,7 +15,7 @@ use Rattle.triangulations.specs.Stored.{table-of, stored, all-below, lawful-lis
 use Rattle.triangulations.proofs.Frames.{at-below}
 use Rattle.triangulations.proofs.Pairs.{and-l, and-r}
 use Rattle.triangulations.proofs.Labels.{step-lawful}
-use Rattle.triangulations.proofs.Stored.{lawful-from-list}
+use Rattle.triangulations.proofs.Stored.{none-past, lawful-from-list}
 
 abbrev pub Row : Type 0
 Row = List (Option ℕ)
@@ -35,13 +35,6 @@ equal-is (Some x) (Some y) h = ap Some (eqb→eq x y h)
 -- whether the darts of seven edges have the same followers
 abbrev pub agree : Table → Table → Bool
 agree t u = all-below 14 (λ d. equal (t d) (u d))
-
-none-past : (t : Triangulation) → Lawful t → (d : ℕ) → 2 * t .edges ≤ d → t .next d ≡ None
-none-past t law d h = go (t .next d) refl
-  where
-    go : (r : Option ℕ) → t .next d ≡ r → r ≡ None
-    go None e = refl
-    go (Some a) e = let low = law .bounded d a e in absurd (omega arith)
 
 -- lawful triangulations of seven edges that agree on their darts are equal
 pub same-triangulation : (t u : Table) → Lawful (record { edges = 7; next = t }) → Lawful (record { edges = 7; next = u }) → Yes (agree t u)

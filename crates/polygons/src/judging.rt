@@ -1,6 +1,7 @@
 ghost use mathlib.Core.Path.{_≡_};
 ghost use Prim.Native.Nat.{_≤_, _<_};
 ghost use lib.ListN.{length};
+ghost use Rattle.std.specs.declared.option.Option.the-variants.{None};
 ghost use Rattle.polygon_counting.specs.Diagonals.{neighbours, proper, leaves, clashes};
 ghost use Rattle.polygons.specs.Judging.{clear, diagonal-fault, first-fault};
 use polygon_counting::diagonal::Corner;
@@ -75,9 +76,10 @@ pub(crate) fn first_fault(corners: u8, diagonals: &[Diagonal]) -> Option<Surface
 }
 
 /// The first fault of at most 30 diagonals of a polygon, in their order: 8 where one is none, 9 where it crosses or repeats an
-/// earlier one.
+/// earlier one. Nothing is said of more, which no polygon has.
 pub fn judge_diagonals(corners: u8, diagonals: &[Diagonal]) -> Option<SurfaceFault>
-    ensures { λ r. ⌜ (length (now (diagonals .entry)) ≤ 30 → r ≡ first-fault corners (now (diagonals .entry))) ⌝ }
+    ensures judged { λ r. ⌜ (length (now (diagonals .entry)) ≤ 30 → r ≡ first-fault corners (now (diagonals .entry))) ⌝ }
+    ensures long { λ r. ⌜ (30 < length (now (diagonals .entry)) → r ≡ None) ⌝ }
 {
     if diagonals.len() > 30 {
         return None;

@@ -23,7 +23,9 @@ impl Torus {
         if punctures < 1 || punctures > 21 {
             return Err(SurfaceFault::CountOutside);
         }
-        Ok(Torus { punctures: punctures as u8 })
+        Ok(Torus {
+            punctures: punctures as u8,
+        })
     }
 
     /// How many punctures it has.

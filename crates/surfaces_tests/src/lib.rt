@@ -27,7 +27,10 @@ mod tests {
     }
 
     fn left(edge: u8) -> Step {
-        Step::Flip(Flip { side: Side::Left, edge })
+        Step::Flip(Flip {
+            side: Side::Left,
+            edge,
+        })
     }
 
     // The board has just these followers.
@@ -79,7 +82,12 @@ mod tests {
         let before = board;
         check(!board.is_flippable(5))?;
         check(!board.step(left(5)))?;
-        check(!board.step(Step::Flip(Flip { side: Side::Right, edge: 5 })))?;
+        check(
+            !board.step(Step::Flip(Flip {
+                side: Side::Right,
+                edge: 5,
+            })),
+        )?;
         check(!board.step(left(6)))?;
         check(!board.step(left(200)))?;
         check(!board.step(Step::Label(Label::Turn(6))))?;

@@ -13,7 +13,7 @@ use lib.Seq.{getD-set-same, getD-set-other}
 use borrow.Author.Tests.{eq-eqb, ne-eqb}
 use Rattle.std.specs.declared.option.Option.{Option}
 use Rattle.std.specs.declared.option.Option.the-variants.{None, Some}
-use Rattle.triangulations.specs.Triangulations.{Table, Lawful, after, is-some, inside}
+use Rattle.triangulations.specs.Triangulations.{Table, Triangulation, Lawful, after, is-some, inside}
 use Rattle.triangulations.specs.Steps.{triangle}
 use Rattle.std.proofs.shelf.Lists.{getD-past}
 use Rattle.triangulations.proofs.Frames.{at-below, after-is}
@@ -137,3 +137,11 @@ pub none-stored : (n d : ℕ) → table-of (replicate n None) d ≡ None
 none-stored zero d = refl
 none-stored (suc n) zero = refl
 none-stored (suc n) (suc d) = none-stored n d
+
+-- a lawful triangulation has no follower past its darts
+pub none-past : (t : Triangulation) → Lawful t → (d : ℕ) → 2 * t .edges ≤ d → t .next d ≡ None
+none-past t law d h = go (t .next d) refl
+  where
+    go : (r : Option ℕ) → t .next d ≡ r → r ≡ None
+    go None e = refl
+    go (Some a) e = let low = law .bounded d a e in absurd (omega arith)

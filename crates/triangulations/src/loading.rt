@@ -18,7 +18,10 @@ impl Board {
         ensures edges { λ r. ⌜ on r .edges ≡ 0 ⌝ }
         ensures empty { λ r. ⌜ ((d : ℕ) → on r .next d ≡ None) ⌝ }
     {
-        Board { edges: 0, next: [None; 128] }
+        Board {
+            edges: 0,
+            next: [None; 128],
+        }
     }
 
     /// Loads the triangulation of so many edges that a table gives, where it has at most 64 edges and is lawful;

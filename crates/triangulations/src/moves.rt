@@ -206,13 +206,7 @@ impl Label {
         ensures { λ r. ⌜ r ≡ naming self dart ⌝ }
     {
         match self {
-            Label::Turn(e) => {
-                if dart / 2 == e {
-                    partner(dart)
-                } else {
-                    dart
-                }
-            }
+            Label::Turn(e) => { if dart / 2 == e { partner(dart) } else { dart } }
             Label::Swap(e, f) => 2 * exchanged(e, f, dart / 2) + dart % 2,
         }
     }

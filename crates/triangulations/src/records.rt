@@ -59,8 +59,18 @@ impl Step {
         ensures back { λ r. ⌜ ((edges : ℕ) → Names self edges → reading edges r ≡ Ok self) ⌝ }
     {
         match self {
-            Step::Flip(Flip { side: Side::Left, edge }) => [0, edge, 0],
-            Step::Flip(Flip { side: Side::Right, edge }) => [1, edge, 0],
+            Step::Flip(
+                Flip {
+                    side: Side::Left,
+                    edge,
+                },
+            ) => [0, edge, 0],
+            Step::Flip(
+                Flip {
+                    side: Side::Right,
+                    edge,
+                },
+            ) => [1, edge, 0],
             Step::Label(Label::Turn(e)) => [2, e, 0],
             Step::Label(Label::Swap(e, f)) => [3, e, f],
         }
@@ -96,8 +106,14 @@ fn spelt(code: u8, e: Edge, f: Edge) -> Step
     ensures { λ r. ⌜ r ≡ spelt code e f ⌝ }
 {
     match code {
-        0 => Step::Flip(Flip { side: Side::Left, edge: e }),
-        1 => Step::Flip(Flip { side: Side::Right, edge: e }),
+        0 => Step::Flip(Flip {
+            side: Side::Left,
+            edge: e,
+        }),
+        1 => Step::Flip(Flip {
+            side: Side::Right,
+            edge: e,
+        }),
         2 => Step::Label(Label::Turn(e)),
         _ => Step::Label(Label::Swap(e, f)),
     }

@@ -27,7 +27,10 @@ impl Step {
         ensures undoes { λ r. ⌜ Undoes (meant self) (meant r) ⌝ }
     {
         match self {
-            Step::Flip(flip) => Step::Flip(Flip { side: flip.side.other(), edge: flip.edge }),
+            Step::Flip(flip) => Step::Flip(Flip {
+                side: flip.side.other(),
+                edge: flip.edge,
+            }),
             Step::Label(label) => Step::Label(label),
         }
     }

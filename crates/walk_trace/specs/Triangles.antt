@@ -3,8 +3,9 @@ use Prim.Native.Nat.{ℕ, _+_, _*_}
 use mathlib.Core.Bool.{cond, _&&_}
 use lib.Dec.{ltb}
 use Rattle.std.specs.declared.option.Option.{Option}
-use Rattle.std.specs.declared.option.Option.the-variants.{None, Some}
+use Rattle.std.specs.declared.option.Option.the-variants.{Some}
 use Rattle.triangulations.specs.Triangulations.{Table}
+use Rattle.polygon_counting.specs.Polygons.{and-then}
 use Rattle.walk_trace.specs.declared.triangles.Triangle.{Triangle}
 
 abbrev pub smallest-first : (x y z : ℕ) → Triangle
@@ -13,14 +14,9 @@ smallest-first x y z =
     (cond (ltb y z) (record { first = y; second = z; third = x })
     (record { first = z; second = x; third = y }))
 
--- what f makes of a value, if there is one
-abbrev pub given : {X Y : Type 0} → Option X → (X → Option Y) → Option Y
-given None f = None
-given (Some x) f = f x
-
 -- none for a dart that lies outside or does not exist
 abbrev pub triangle-of : Table → ℕ → Option Triangle
-triangle-of t d = given (t d) (λ a. given (t a) (λ b. Some (smallest-first d a b)))
+triangle-of t d = and-then (t d) (λ a. and-then (t a) (λ b. Some (smallest-first d a b)))
 
 -- two triangles, the one with the smaller dart first
 abbrev pub rising : Triangle → Triangle → Triangle × Triangle
@@ -28,4 +24,4 @@ rising a b = cond (ltb (a .first) (b .first)) (a, b) (b, a)
 
 -- the triangles of the two darts of an edge, rising; none where one of them lies outside or does not exist
 abbrev pub triangles-at : Table → ℕ → Option (Triangle × Triangle)
-triangles-at t e = given (triangle-of t (2 * e)) (λ a. given (triangle-of t (2 * e + 1)) (λ b. Some (rising a b)))
+triangles-at t e = and-then (triangle-of t (2 * e)) (λ a. and-then (triangle-of t (2 * e + 1)) (λ b. Some (rising a b)))

@@ -42,7 +42,11 @@ pub fn corners_text(heap: Global, corners: u8) -> Result<String, AllocError>
 pub fn triangle_text(heap: Global, triangle: Triangle) -> Result<String, AllocError>
     ensures { λ r. ⌜ made r (λ s. string-bytes s ≡ triangle-text triangle) ⌝ }
 {
-    let Triangle { first, second, third } = triangle;
+    let Triangle {
+        first,
+        second,
+        third,
+    } = triangle;
     format!(heap, "{first} {second} {third}")
 }
 
@@ -82,7 +86,10 @@ fn swap_text(heap: Global, e: u16, f: u16) -> Result<String, AllocError>
     let f_even = 2 * f;
     let e_odd = 2 * e + 1;
     let f_odd = 2 * f + 1;
-    format!(heap, " exchanges {e_even} and {f_even}, {e_odd} and {f_odd}")
+    format!(
+        heap,
+        " exchanges {e_even} and {f_even}, {e_odd} and {f_odd}"
+    )
 }
 
 /// The letter and the names of a step.

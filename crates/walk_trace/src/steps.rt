@@ -20,7 +20,13 @@ use triangulations::step::Label;
 use triangulations::step::Step;
 
 /// Reads and does one step of the walk after the other, and lists what each did.
-pub fn trace_steps<K: Kind>(heap: Global, rows: &mut [K], walk: &mut Cursor, board: &mut Board, text: &mut String) -> Result<(), Stop> {
+pub fn trace_steps<K: Kind>(
+    heap: Global,
+    rows: &mut [K],
+    walk: &mut Cursor,
+    board: &mut Board,
+    text: &mut String,
+) -> Result<(), Stop> {
     let count = read_walk_count(walk)?;
     text.push_str(format!(heap, "steps: {count}\n")?.as_str())?;
     for index in 0..count as usize {
@@ -32,9 +38,19 @@ pub fn trace_steps<K: Kind>(heap: Global, rows: &mut [K], walk: &mut Cursor, boa
 }
 
 // Does a step on the board and on the values, and answers the new value of an edge that was flipped.
-fn do_step<K: Kind>(index: usize, step: Step, board: &mut Board, rows: &mut [K]) -> Result<Option<K>, Refusal> {
+fn do_step<K: Kind>(
+    index: usize,
+    step: Step,
+    board: &mut Board,
+    rows: &mut [K],
+) -> Result<Option<K>, Refusal> {
     let value = match step {
-        Step::Flip(flip) if board.is_flippable(flip.edge) => flip_value(index, flip.edge, board, rows)?,
+        Step::Flip(flip) if board.is_flippable(flip.edge) => flip_value(
+            index,
+            flip.edge,
+            board,
+            rows,
+        )?,
         _ => None,
     };
     if !board.step(step) {
@@ -60,7 +76,14 @@ fn exchange<K: Kind>(rows: &mut [K], e: Edge, f: Edge) {
     }
 }
 
-fn push_step<K: Kind>(heap: Global, index: usize, step: Step, board: &Board, value: Option<K>, text: &mut String) -> Result<(), AllocError> {
+fn push_step<K: Kind>(
+    heap: Global,
+    index: usize,
+    step: Step,
+    board: &Board,
+    value: Option<K>,
+    text: &mut String,
+) -> Result<(), AllocError> {
     let name = step_text(heap, step)?;
     text.push_str(format!(heap, "  {index}: {name}")?.as_str())?;
     match step {

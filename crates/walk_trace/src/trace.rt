@@ -51,9 +51,27 @@ fn trace_case(heap: Global, file: &[u8], text: &mut String) -> Result<(), Stop> 
     push_triangles(heap, "start\n", &board, text)?;
     let mut ahead = from;
     match find_values(&mut ahead)? {
-        Some(head) if is_marked::<Weight>(head.mark) => trace_kind::<Weight>(heap, "weights\n", head, &mut ahead, &mut from, &mut board, text),
-        Some(head) if is_marked::<Fraction>(head.mark) => trace_kind::<Fraction>(heap, "fractions\n", head, &mut ahead, &mut from, &mut board, text),
-        Some(head) => Err(Stop::Refused(Refusal::UnknownMark { offset: head.offset })),
+        Some(head) if is_marked::<Weight>(head.mark) => trace_kind::<Weight>(
+            heap,
+            "weights\n",
+            head,
+            &mut ahead,
+            &mut from,
+            &mut board,
+            text,
+        ),
+        Some(head) if is_marked::<Fraction>(head.mark) => trace_kind::<Fraction>(
+            heap,
+            "fractions\n",
+            head,
+            &mut ahead,
+            &mut from,
+            &mut board,
+            text,
+        ),
+        Some(head) => Err(Stop::Refused(Refusal::UnknownMark {
+            offset: head.offset,
+        })),
         None => trace_walk::<Weight>(heap, "", Vec::new(heap), &mut from, &mut board, text),
     }
 }
@@ -78,12 +96,27 @@ fn find_values(ahead: &mut Cursor) -> Result<Option<ValuesHead>, Refusal> {
 }
 
 // Reads the values, which `values` has next, and traces the walk, which `walk` has next.
-fn trace_kind<K: Kind>(heap: Global, title: &str, head: ValuesHead, values: &mut Cursor, walk: &mut Cursor, board: &mut Board, text: &mut String) -> Result<(), Stop> {
+fn trace_kind<K: Kind>(
+    heap: Global,
+    title: &str,
+    head: ValuesHead,
+    values: &mut Cursor,
+    walk: &mut Cursor,
+    board: &mut Board,
+    text: &mut String,
+) -> Result<(), Stop> {
     let rows = read_rows::<K>(heap, head, board.edges(), values)?;
     trace_walk(heap, title, rows, walk, board, text)
 }
 
-fn trace_walk<K: Kind>(heap: Global, title: &str, rows: Vec<K>, walk: &mut Cursor, board: &mut Board, text: &mut String) -> Result<(), Stop> {
+fn trace_walk<K: Kind>(
+    heap: Global,
+    title: &str,
+    rows: Vec<K>,
+    walk: &mut Cursor,
+    board: &mut Board,
+    text: &mut String,
+) -> Result<(), Stop> {
     let mut rows = rows;
     push_values(heap, title, &rows, text)?;
     trace_steps(heap, &mut rows, walk, board, text)?;
@@ -93,7 +126,12 @@ fn trace_walk<K: Kind>(heap: Global, title: &str, rows: Vec<K>, walk: &mut Curso
 }
 
 // Every triangle, a line each, by the smallest dart.
-fn push_triangles(heap: Global, title: &str, board: &Board, text: &mut String) -> Result<(), AllocError> {
+fn push_triangles(
+    heap: Global,
+    title: &str,
+    board: &Board,
+    text: &mut String,
+) -> Result<(), AllocError> {
     text.push_str(title)?;
     for dart in 0..board.edges().saturating_mul(2) {
         if let Some(triangle) = Triangle::of(board, dart) {

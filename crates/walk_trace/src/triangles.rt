@@ -48,10 +48,22 @@ fn smallest_first(x: Dart, y: Dart, z: Dart) -> Triangle
     ensures { λ r. ⌜ r ≡ smallest-first x y z ⌝ }
 {
     if x < y && x < z {
-        Triangle { first: x, second: y, third: z }
+        Triangle {
+            first: x,
+            second: y,
+            third: z,
+        }
     } else if y < z {
-        Triangle { first: y, second: z, third: x }
+        Triangle {
+            first: y,
+            second: z,
+            third: x,
+        }
     } else {
-        Triangle { first: z, second: x, third: y }
+        Triangle {
+            first: z,
+            second: x,
+            third: y,
+        }
     }
 }

@@ -13,9 +13,16 @@ use triangulations::board::Board;
 use triangulations::darts::Edge;
 
 /// Reads the values whose head was read: none, or one for each edge.
-pub fn read_rows<K: Kind>(heap: Global, head: ValuesHead, edges: u8, from: &mut Cursor) -> Result<Vec<K>, Stop> {
+pub fn read_rows<K: Kind>(
+    heap: Global,
+    head: ValuesHead,
+    edges: u8,
+    from: &mut Cursor,
+) -> Result<Vec<K>, Stop> {
     if head.count != 0 && head.count != edges as u16 {
-        return Err(Stop::Refused(Refusal::ValueCount { count: head.count as usize }));
+        return Err(Stop::Refused(Refusal::ValueCount {
+            count: head.count as usize,
+        }));
     }
     let mut rows = Vec::new(heap);
     for index in 0..head.count as usize {
@@ -26,7 +33,12 @@ pub fn read_rows<K: Kind>(heap: Global, head: ValuesHead, edges: u8, from: &mut 
 }
 
 /// Every value, a line each, by its edge; nothing where there are none.
-pub fn push_values<K: Kind>(heap: Global, title: &str, rows: &[K], text: &mut String) -> Result<(), AllocError> {
+pub fn push_values<K: Kind>(
+    heap: Global,
+    title: &str,
+    rows: &[K],
+    text: &mut String,
+) -> Result<(), AllocError> {
     if rows.is_empty() {
         return Ok(());
     }
@@ -62,7 +74,12 @@ struct Quadrilateral<K> {
 }
 
 /// The value that a flip of the edge gives it, at this step. There is none where there are no values.
-pub fn flip_value<K: Kind>(index: usize, edge: Edge, board: &Board, rows: &[K]) -> Result<Option<K>, Refusal> {
+pub fn flip_value<K: Kind>(
+    index: usize,
+    edge: Edge,
+    board: &Board,
+    rows: &[K],
+) -> Result<Option<K>, Refusal> {
     match values_around(edge, board, rows) {
         Some(q) => match value_at_step(index, q.a, q.b, q.c, q.g, q.e) {
             Ok(value) => Ok(Some(value)),

@@ -26,16 +26,36 @@ mod tests {
     fn no_walk(rt: LibcRuntime) -> Result<(), Fail> {
         goes_on(rt.alloc(), &[0, 0], "steps: 0\nend\n  0 2 5\n  1 3 4\n")?;
         let certificate = [0u8, 0, 0, 1, 9, 9, 9, 0, 1, 9, 9, 9, 9, 9, 9, 9, 0, 0, 2, 7];
-        goes_on(rt.alloc(), &certificate, "steps: 0\nend\n  0 2 5\n  1 3 4\n").note("the second walk and the rewritings are not judged, nor what follows the values")
+        goes_on(
+            rt.alloc(),
+            &certificate,
+            "steps: 0\nend\n  0 2 5\n  1 3 4\n",
+        ).note("the second walk and the rewritings are not judged, nor what follows the values")
     }
 
     #[test]
     fn each_step(rt: LibcRuntime) -> Result<(), Fail> {
         let heap = rt.alloc();
-        goes_on(heap, &[0, 1, 0, 2, 0], "steps: 1\n  0: L 2 makes 0 4 3 and 1 5 2\nend\n  0 4 3\n  1 5 2\n")?;
-        goes_on(heap, &[0, 1, 1, 2, 0], "steps: 1\n  0: R 2 makes 0 5 3 and 1 4 2\nend\n  0 5 3\n  1 4 2\n")?;
-        goes_on(heap, &[0, 1, 2, 2, 0], "steps: 1\n  0: T 2 exchanges 4 and 5\nend\n  0 2 4\n  1 3 5\n")?;
-        goes_on(heap, &[0, 1, 3, 0, 2], "steps: 1\n  0: S 0 2 exchanges 0 and 4, 1 and 5\nend\n  0 5 3\n  1 4 2\n")
+        goes_on(
+            heap,
+            &[0, 1, 0, 2, 0],
+            "steps: 1\n  0: L 2 makes 0 4 3 and 1 5 2\nend\n  0 4 3\n  1 5 2\n",
+        )?;
+        goes_on(
+            heap,
+            &[0, 1, 1, 2, 0],
+            "steps: 1\n  0: R 2 makes 0 5 3 and 1 4 2\nend\n  0 5 3\n  1 4 2\n",
+        )?;
+        goes_on(
+            heap,
+            &[0, 1, 2, 2, 0],
+            "steps: 1\n  0: T 2 exchanges 4 and 5\nend\n  0 2 4\n  1 3 5\n",
+        )?;
+        goes_on(
+            heap,
+            &[0, 1, 3, 0, 2],
+            "steps: 1\n  0: S 0 2 exchanges 0 and 4, 1 and 5\nend\n  0 5 3\n  1 4 2\n",
+        )
     }
 
     #[test]
@@ -57,10 +77,14 @@ mod tests {
         goes_on(heap, &[], "REFUSED 1 1 3\n")?;
         goes_on(heap, &[0], "REFUSED 1 1 4\n")?;
         goes_on(heap, &[1, 1], "REFUSED 4 1 3\n").note("257 steps")?;
-        goes_on(heap, &[0, 1, 9, 9], "steps: 1\nREFUSED 1 1 7\n").note("a record cut short, whatever its first bytes are")?;
+        goes_on(heap, &[0, 1, 9, 9], "steps: 1\nREFUSED 1 1 7\n").note(
+            "a record cut short, whatever its first bytes are",
+        )?;
         goes_on(heap, &[0, 1, 4, 0, 0], "steps: 1\nREFUSED 5 3 0\n")?;
         goes_on(heap, &[0, 1, 255, 3, 1], "steps: 1\nREFUSED 5 3 0\n")?;
-        goes_on(heap, &[0, 1, 0, 0, 1], "steps: 1\nREFUSED 5 3 0\n").note("the unused byte is not 0")?;
+        goes_on(heap, &[0, 1, 0, 0, 1], "steps: 1\nREFUSED 5 3 0\n").note(
+            "the unused byte is not 0",
+        )?;
         goes_on(heap, &[0, 1, 2, 3, 1], "steps: 1\nREFUSED 5 3 0\n").note("5 before 6")
     }
 
@@ -74,16 +98,46 @@ mod tests {
         goes_on(heap, &[0, 1, 3, 3, 2], "steps: 1\nREFUSED 6 3 0\n").note("6 before 7")?;
         goes_on(heap, &[0, 1, 3, 1, 1], "steps: 1\nREFUSED 7 3 0\n")?;
         goes_on(heap, &[0, 1, 3, 2, 1], "steps: 1\nREFUSED 7 3 0\n")?;
-        goes_on(heap, &[0, 2, 2, 1, 0, 3, 2, 1], "steps: 2\n  0: T 1 exchanges 2 and 3\nREFUSED 7 3 1\n").note("what comes before it is printed")
+        goes_on(
+            heap,
+            &[0, 2, 2, 1, 0, 3, 2, 1],
+            "steps: 2\n  0: T 1 exchanges 2 and 3\nREFUSED 7 3 1\n",
+        ).note("what comes before it is printed")
     }
 
     // On two punctures L(1) L(0) L(2) L(3) leads to a triangulation in which both darts of edge 5 lie in one triangle.
     #[test]
     fn an_edge_that_is_not_flippable(rt: LibcRuntime) -> Result<(), Fail> {
-        let input = [0u8, 2, 0x54, 0, 5, 0, 1, 0, 0, 0, 0, 0, 2, 0, 0, 3, 0, 0, 5, 0];
-        let mut text = String::from_str(rt.alloc(), "torus, m = 2, E = 6\nstart\n  0 8 5\n  1 3 4\n  2 11 6\n  7 9 10\nsteps: 5\n")?;
+        let input = [
+            0u8,
+            2,
+            0x54,
+            0,
+            5,
+            0,
+            1,
+            0,
+            0,
+            0,
+            0,
+            0,
+            2,
+            0,
+            0,
+            3,
+            0,
+            0,
+            5,
+            0,
+        ];
+        let mut text = String::from_str(
+            rt.alloc(),
+            "torus, m = 2, E = 6\nstart\n  0 8 5\n  1 3 4\n  2 11 6\n  7 9 10\nsteps: 5\n",
+        )?;
         text.push_str("  0: L 1 makes 1 11 3 and 2 6 4\n  1: L 0 makes 0 5 11 and 1 3 8\n")?;
-        text.push_str("  2: L 2 makes 0 2 5 and 4 6 11\n  3: L 3 makes 4 9 6 and 7 10 11\nREFUSED 10 3 4\n")?;
+        text.push_str(
+            "  2: L 2 makes 0 2 5 and 4 6 11\n  3: L 3 makes 4 9 6 and 7 10 11\nREFUSED 10 3 4\n",
+        )?;
         says(rt.alloc(), &input, text.as_str())
     }
 
@@ -94,8 +148,13 @@ mod tests {
         for _ in 0..3 {
             walk.extend_from_slice(&[0, 0, 0, 1, 0, 0, 0, 1])?;
         }
-        let mut text = String::from_str(rt.alloc(), "fractions\n  0 1.000\n  1 1.000\n  2 1.000\nsteps: 2\n")?;
-        text.push_str("  0: L 2 makes 0 4 3 and 1 5 2, value 2.000\n  1: L 0 makes 0 3 5 and 1 2 4, value 5.000\n")?;
+        let mut text = String::from_str(
+            rt.alloc(),
+            "fractions\n  0 1.000\n  1 1.000\n  2 1.000\nsteps: 2\n",
+        )?;
+        text.push_str(
+            "  0: L 2 makes 0 4 3 and 1 5 2, value 2.000\n  1: L 0 makes 0 3 5 and 1 2 4, value 5.000\n",
+        )?;
         text.push_str("end\n  0 3 5\n  1 2 4\nfractions\n  0 5.000\n  1 1.000\n  2 2.000\n")?;
         goes_on(rt.alloc(), walk.as_slice(), text.as_str())
     }
@@ -108,7 +167,9 @@ mod tests {
             walk.extend_from_slice(&[0, 0, 0, 0, 0, 0, 0, weight])?;
         }
         let mut text = String::from_str(rt.alloc(), "weights\n  0 1\n  1 2\n  2 3\nsteps: 2\n")?;
-        text.push_str("  0: L 2 makes 0 4 3 and 1 5 2, value 1\n  1: S 0 2 exchanges 0 and 4, 1 and 5\n")?;
+        text.push_str(
+            "  0: L 2 makes 0 4 3 and 1 5 2, value 1\n  1: S 0 2 exchanges 0 and 4, 1 and 5\n",
+        )?;
         text.push_str("end\n  0 3 4\n  1 2 5\nweights\n  0 1\n  1 2\n  2 1\n")?;
         goes_on(rt.alloc(), walk.as_slice(), text.as_str())
     }
@@ -117,23 +178,89 @@ mod tests {
     #[test]
     fn values_that_are_refused(rt: LibcRuntime) -> Result<(), Fail> {
         let heap = rt.alloc();
-        let large = [0u8, 1, 0, 2, 0, 0, 0, 0, 0, 0, 3, 2, 127, 255, 255, 255, 0, 0, 0, 1, 0, 0, 0, 1, 0, 0, 0, 1, 0, 0, 0, 1, 0, 0, 0, 1];
-        goes_on(heap, &large, "fractions\n  0 2147483647.000\n  1 1.000\n  2 1.000\nsteps: 1\nREFUSED 18 6 0\n")?;
-        goes_on(heap, &[0, 0, 0, 0, 0, 0, 0, 2, 1], "REFUSED 19 6 2\n").note("neither 0 nor 3 values")?;
-        goes_on(heap, &[0, 0, 0, 0, 0, 0, 0, 2, 3], "REFUSED 3 1 11\n").note("the mark is judged before the count")?;
-        goes_on(heap, &[0, 0, 0, 0, 0, 0, 0, 3, 2, 0, 0, 0, 2, 0, 0, 0, 4], "REFUSED 17 6 0\n").note("2/4 is no number")?;
-        goes_on(heap, &[0, 0, 0, 0, 0, 0, 0, 3, 2, 0, 0, 0, 2, 0, 0, 0], "REFUSED 1 1 19\n")?;
-        goes_on(heap, &[0, 0, 0], "REFUSED 1 1 6\n").note("what follows the walk is no whole section")
+        let large = [
+            0u8,
+            1,
+            0,
+            2,
+            0,
+            0,
+            0,
+            0,
+            0,
+            0,
+            3,
+            2,
+            127,
+            255,
+            255,
+            255,
+            0,
+            0,
+            0,
+            1,
+            0,
+            0,
+            0,
+            1,
+            0,
+            0,
+            0,
+            1,
+            0,
+            0,
+            0,
+            1,
+            0,
+            0,
+            0,
+            1,
+        ];
+        goes_on(
+            heap,
+            &large,
+            "fractions\n  0 2147483647.000\n  1 1.000\n  2 1.000\nsteps: 1\nREFUSED 18 6 0\n",
+        )?;
+        goes_on(heap, &[0, 0, 0, 0, 0, 0, 0, 2, 1], "REFUSED 19 6 2\n").note(
+            "neither 0 nor 3 values",
+        )?;
+        goes_on(heap, &[0, 0, 0, 0, 0, 0, 0, 2, 3], "REFUSED 3 1 11\n").note(
+            "the mark is judged before the count",
+        )?;
+        goes_on(
+            heap,
+            &[0, 0, 0, 0, 0, 0, 0, 3, 2, 0, 0, 0, 2, 0, 0, 0, 4],
+            "REFUSED 17 6 0\n",
+        ).note("2/4 is no number")?;
+        goes_on(
+            heap,
+            &[0, 0, 0, 0, 0, 0, 0, 3, 2, 0, 0, 0, 2, 0, 0, 0],
+            "REFUSED 1 1 19\n",
+        )?;
+        goes_on(heap, &[0, 0, 0], "REFUSED 1 1 6\n").note(
+            "what follows the walk is no whole section",
+        )
     }
 
     #[test]
     fn polygons(rt: LibcRuntime) -> Result<(), Fail> {
         let heap = rt.alloc();
-        says(heap, &[0, 3, 0x50, 0, 0], "polygon, n = 3, E = 3\nstart\n  0 2 4\nsteps: 0\nend\n  0 2 4\n")?;
-        let mut text = String::from_str(heap, "polygon, n = 4, E = 5\nstart\n  0 2 9\n  4 6 8\nsteps: 1\n")?;
+        says(
+            heap,
+            &[0, 3, 0x50, 0, 0],
+            "polygon, n = 3, E = 3\nstart\n  0 2 4\nsteps: 0\nend\n  0 2 4\n",
+        )?;
+        let mut text = String::from_str(
+            heap,
+            "polygon, n = 4, E = 5\nstart\n  0 2 9\n  4 6 8\nsteps: 1\n",
+        )?;
         text.push_str("  0: L 4 makes 0 8 6 and 2 4 9\nend\n  0 8 6\n  2 4 9\n")?;
         says(heap, &[0, 4, 0x50, 0, 2, 0, 1, 0, 4, 0], text.as_str())?;
-        says(heap, &[0, 4, 0x50, 0, 2, 0, 1, 0, 0, 0], "polygon, n = 4, E = 5\nstart\n  0 2 9\n  4 6 8\nsteps: 1\nREFUSED 10 3 0\n").note("a side")
+        says(
+            heap,
+            &[0, 4, 0x50, 0, 2, 0, 1, 0, 0, 0],
+            "polygon, n = 4, E = 5\nstart\n  0 2 9\n  4 6 8\nsteps: 1\nREFUSED 10 3 0\n",
+        ).note("a side")
     }
 
     #[test]
@@ -142,7 +269,9 @@ mod tests {
         says(heap, &[0, 2, 0x50], "REFUSED 4 1 0\n")?;
         says(heap, &[0, 34, 0x50], "REFUSED 4 1 0\n")?;
         says(heap, &[0, 5, 0x50, 0, 2, 2], "REFUSED 1 1 6\n")?;
-        says(heap, &[0, 5, 0x50, 0, 4, 2], "REFUSED 8 2 0\n").note("a diagonal's fault comes before the want of the next")?;
+        says(heap, &[0, 5, 0x50, 0, 4, 2], "REFUSED 8 2 0\n").note(
+            "a diagonal's fault comes before the want of the next",
+        )?;
         says(heap, &[0, 5, 0x50, 0, 2, 2, 0], "REFUSED 8 2 1\n")?;
         says(heap, &[0, 5, 0x50, 0, 2, 1, 3], "REFUSED 9 2 1\n")?;
         says(heap, &[0, 5, 0x50, 0, 2, 0, 2], "REFUSED 9 2 1\n")

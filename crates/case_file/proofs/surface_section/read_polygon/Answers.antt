@@ -19,5 +19,5 @@ returns-in-Ok c =
     let xs = c .pairs-in-count .result .0 in
     let same : k - 0 ≡ k = omega arith in
     let few : length (take (k - 0) xs) ≤ 30 = omega (arith, length-take (k - 0) xs, read .room) in
-    polygon-read (c .args .start) n p _ _ _ (ap (λ m. take m xs) same ∙ read .pairs) (sym (judged few)) (c .if-bytes-wanted .left)
+    polygon-read (c .args .start) n p _ _ _ (ap (λ m. take m xs) same ∙ read .pairs) (sym (judged .judged few)) (c .if-bytes-wanted .left)
     (λ i. polygon (sym (made .corners) i) (sym (made .diagonals) i)) (sym (take-rest (p .rest) (2 * (n - 3))))

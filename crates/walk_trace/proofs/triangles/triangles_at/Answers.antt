@@ -5,7 +5,8 @@ use lib.ListN.{length}
 use Rattle.std.specs.declared.option.Option.the-variants.{Some}
 use Rattle.triangulations.specs.Boards.{table}
 use Rattle.triangulations.proofs.Stored.{beyond}
-use Rattle.walk_trace.specs.Triangles.{given, smallest-first, triangle-of, rising}
+use Rattle.polygon_counting.specs.Polygons.{and-then}
+use Rattle.walk_trace.specs.Triangles.{smallest-first, triangle-of, rising}
 use Rattle.walk_trace.proofs.triangles.triangles_at.Needs as need
 
 pub returns-then-edge-ge-MOST-EDGES : need.returns-then-edge-ge-MOST-EDGES
@@ -14,4 +15,4 @@ returns-then-edge-ge-MOST-EDGES c =
     let e = c .args .edge in
     let full = x .full in
     let past : length (x .next) ≤ 2 * e = omega arith in
-    sym (ap (λ r. given (given r (λ a. given (table x a) (λ b. Some (smallest-first (2 * e) a b)))) (λ a. given (triangle-of (table x) (2 * e + 1)) (λ b. Some (rising a b)))) (beyond (x .next) (2 * e) past))
+    sym (ap (λ r. and-then (and-then r (λ a. and-then (table x a) (λ b. Some (smallest-first (2 * e) a b)))) (λ a. and-then (triangle-of (table x) (2 * e + 1)) (λ b. Some (rising a b)))) (beyond (x .next) (2 * e) past))

@@ -13,10 +13,10 @@ returns-then-edges-gt-MOST-EDGES c =
     let n = c .args .edges in
     let xs = c .args .table in
     let never : (n ≤ 64) × Lawful (stored n xs) → ⊥ = λ h. let few = h .0 in
-        elim (c .then-edges-gt-MOST-EDGES .came) [
-          | then-edges-gt-MOST-EDGES·by·then-edges-gt-MOST-EDGES w ↦ let many = w .if-edges-gt-MOST-EDGES .taken in omega arith
-          | then-edges-gt-MOST-EDGES·by·else-edges-gt-MOST-EDGES·then-not-is-lawful w ↦ subst T (sym (w .is-lawful .ensures) ∙ w .if-not-is-lawful .taken) (list-from-lawful n xs (h .1))
-        ] in
+    elim (c .then-edges-gt-MOST-EDGES .came) [
+      | then-edges-gt-MOST-EDGES·by·then-edges-gt-MOST-EDGES w ↦ let many = w .if-edges-gt-MOST-EDGES .taken in omega arith
+      | then-edges-gt-MOST-EDGES·by·else-edges-gt-MOST-EDGES·then-not-is-lawful w ↦ subst T (sym (w .is-lawful .ensures) ∙ w .if-not-is-lawful .taken) (list-from-lawful n xs (h .1))
+    ] in
     record { granted = (λ e. absurd (subst T (sym e) tt), λ h. absurd (never h)); loaded = refl }
 
 pub returns : need.returns

@@ -14,7 +14,7 @@ pub returns-in-Flip : need.returns-in-Flip
 returns-in-Flip c =
     let f = c .in-Flip .flip in
     let e : flip-step (direction (c .other .result)) (f .edge) ≡ inverse (meant (c .args .self)) =
-        ap (λ w. flip-step w (f .edge)) (c .other .ensures) ∙ (sym (inverse-flip (direction (f .side)) (f .edge)) ∙ ap (λ s. inverse (meant s)) (sym (c .in-Flip .is))) in
+    ap (λ w. flip-step w (f .edge)) (c .other .ensures) ∙ (sym (inverse-flip (direction (f .side)) (f .edge)) ∙ ap (λ s. inverse (meant s)) (sym (c .in-Flip .is))) in
     record { value = e; undoes = undoing (meant (c .args .self)) _ e }
 
 pub returns-in-Label : need.returns-in-Label
