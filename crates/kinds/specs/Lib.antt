@@ -2,4 +2,3 @@ pub mod Pages
 pub mod Weights
 pub mod Divisors
 pub mod Fractions
-pub mod Worked

@@ -3,4 +3,3 @@ pub mod divisor;
 pub mod fraction;
 mod page;
 pub mod weight;
-pub mod worked;

@@ -15,7 +15,7 @@ use Rattle.polygons.specs.WorkedWalks.{pentagon, turned-pentagon, Meet, Pentag
 use Rattle.polygons.proofs.Admission.{uncrossed}
 use Rattle.polygons.proofs.Rows.{Row, same-triangulation, passes, last-of, arrives}
 
-abbrev row0 : Row
+abbrev pub row0 : Row
 row0 = Some 2 ∷ None ∷ Some 11 ∷ None ∷ Some 13 ∷ None ∷ Some 8 ∷ None ∷ Some 12 ∷ None ∷ Some 4 ∷ Some 0 ∷ Some 6 ∷ Some 10 ∷ []
 
 abbrev row1 : Row
@@ -96,7 +96,7 @@ pentagon-lawful : Lawful pentagon
 unfolding first-fault
 pentagon-lawful = cut-into-triangles 5 cuts refl (uncrossed 5 cuts refl) .lawful
 
-is-row0 : pentagon ≡ stored 7 row0
+pub is-row0 : pentagon ≡ stored 7 row0
 unfolding first-below dart-to apex ends polygon-next
 is-row0 = same-triangulation (pentagon .next) (stored 7 row0 .next) pentagon-lawful law0 tt
 

@@ -1,7 +1,5 @@
-//! What each step of a case's first walk does to the triangles of its surface, as text.
-mod lines;
+//! What each step of a case's first walk does to the triangles of its surface and to its values, as text.
 mod steps;
 mod stop;
 pub mod trace;
-mod triangles;
 mod values;

@@ -1,12 +1,10 @@
-use crate::lines::corners_text;
-use crate::lines::punctures_text;
-use crate::lines::refused_line;
-use crate::lines::triangle_text;
+ghost use Rattle.std.specs.Of.String.{string-bytes};
+ghost use Rattle.std.specs.Vec.{made};
+ghost use Rattle.walk_trace.specs.Traces.{Says-surface-refused};
 use crate::steps::trace_steps;
 use crate::stop::Stop;
 use crate::stop::StopFromAlloc;
 use crate::stop::StopFromRefusal;
-use crate::triangles::Triangle;
 use crate::values::push_values;
 use crate::values::read_rows;
 use case_file::cursor::Cursor;
@@ -26,13 +24,28 @@ use numbers::read::is_marked;
 use std::alloc::AllocError;
 use std::alloc::Global;
 use surfaces::loading::load;
+use trace_text::lines::corners_text;
+use trace_text::lines::punctures_text;
+use trace_text::lines::refused_line;
+use trace_text::lines::triangle_text;
+use trace_text::triangles::Triangle;
 use triangulations::board::Board;
 
 /// Lists what each step of a case's first walk does to the triangles of its surface, and to its values where it has some, up
 /// to the first refusal.
-pub fn trace(heap: Global, file: &[u8]) -> Result<String, AllocError> {
+pub fn trace(heap: Global, file: &[u8]) -> Result<String, AllocError>
+    ensures { λ r. ⌜ made r (λ s. Says-surface-refused (now (file .entry)) (string-bytes s)) ⌝ }
+{
+    let mut from = Cursor::new(file);
+    match read_surface(&mut from) {
+        Ok(surface) => trace_on(heap, surface, &mut from),
+        Err(refusal) => refused_line(heap, refusal),
+    }
+}
+
+fn trace_on(heap: Global, surface: CaseSurface, walk: &mut Cursor) -> Result<String, AllocError> {
     let mut text = String::new(heap);
-    match trace_case(heap, file, &mut text) {
+    match trace_case(heap, surface, walk, &mut text) {
         Ok(()) => {}
         Err(Stop::Memory) => return Err(AllocError),
         Err(Stop::Refused(refusal)) => text.push_str(refused_line(heap, refusal)?.as_str())?,
@@ -40,39 +53,38 @@ pub fn trace(heap: Global, file: &[u8]) -> Result<String, AllocError> {
     Ok(text)
 }
 
-fn trace_case(heap: Global, file: &[u8], text: &mut String) -> Result<(), Stop> {
-    let mut from = Cursor::new(file);
-    let surface = read_surface(&mut from)?;
+fn trace_case(
+    heap: Global,
+    surface: CaseSurface,
+    walk: &mut Cursor,
+    text: &mut String,
+) -> Result<(), Stop> {
     let mut board = Board::new();
     load(&surface, &mut board);
     text.push_str(name_of(heap, surface)?.as_str())?;
     let edges = board.edges();
     text.push_str(format!(heap, ", E = {edges}\n")?.as_str())?;
     push_triangles(heap, "start\n", &board, text)?;
-    let mut ahead = from;
+    let mut ahead = *walk;
     match find_values(&mut ahead)? {
-        Some(head) if is_marked::<Weight>(head.mark) => trace_kind::<Weight>(
-            heap,
-            "weights\n",
-            head,
-            &mut ahead,
-            &mut from,
-            &mut board,
-            text,
-        ),
-        Some(head) if is_marked::<Fraction>(head.mark) => trace_kind::<Fraction>(
-            heap,
-            "fractions\n",
-            head,
-            &mut ahead,
-            &mut from,
-            &mut board,
-            text,
-        ),
+        Some(head) if is_marked::<Weight>(head.mark) => {
+            trace_kind::<Weight>(heap, "weights\n", head, &mut ahead, walk, &mut board, text)
+        }
+        Some(head) if is_marked::<Fraction>(head.mark) => {
+            trace_kind::<Fraction>(
+                heap,
+                "fractions\n",
+                head,
+                &mut ahead,
+                walk,
+                &mut board,
+                text,
+            )
+        }
         Some(head) => Err(Stop::Refused(Refusal::UnknownMark {
             offset: head.offset,
         })),
-        None => trace_walk::<Weight>(heap, "", Vec::new(heap), &mut from, &mut board, text),
+        None => trace_walk::<Weight>(heap, "", Vec::new(heap), walk, &mut board, text),
     }
 }
 

@@ -4,8 +4,8 @@ use mathlib.Core.List.{List}
 use Prim.Native.Nat.{ℕ}
 use Rattle.std.specs.Of.String.{string-bytes}
 use Rattle.std.specs.Vec.{made}
-use Rattle.walk_trace.specs.Lines.{refused-with}
-use Rattle.walk_trace.proofs.lines.refused_line.Needs as need
+use Rattle.trace_text.specs.Lines.{refused-with}
+use Rattle.trace_text.proofs.lines.refused_line.Needs as need
 
 pub returns : need.returns
 returns c =

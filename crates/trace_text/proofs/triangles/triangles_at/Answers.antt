@@ -6,8 +6,8 @@ use Rattle.std.specs.declared.option.Option.the-variants.{Some}
 use Rattle.triangulations.specs.Boards.{table}
 use Rattle.triangulations.proofs.Stored.{beyond}
 use Rattle.polygon_counting.specs.Polygons.{and-then}
-use Rattle.walk_trace.specs.Triangles.{smallest-first, triangle-of, rising}
-use Rattle.walk_trace.proofs.triangles.triangles_at.Needs as need
+use Rattle.trace_text.specs.Triangles.{smallest-first, triangle-of, rising}
+use Rattle.trace_text.proofs.triangles.triangles_at.Needs as need
 
 pub returns-then-edge-ge-MOST-EDGES : need.returns-then-edge-ge-MOST-EDGES
 returns-then-edge-ge-MOST-EDGES c =

@@ -1,6 +1,6 @@
 ghost use mathlib.Core.Path.{_≡_};
 ghost use Rattle.triangulations.specs.Boards.{on};
-ghost use Rattle.walk_trace.specs.Triangles.{smallest-first, triangle-of, rising, triangles-at};
+ghost use Rattle.trace_text.specs.Triangles.{smallest-first, triangle-of, rising, triangles-at};
 use triangulations::board::Board;
 use triangulations::darts::Dart;
 use triangulations::darts::Edge;

@@ -8,7 +8,7 @@ use Rattle.triangulations.specs.declared.step.Label.{Label}
 use Rattle.triangulations.specs.declared.step.Label.the-variants.{Turn, Swap}
 use Rattle.case_file.specs.declared.refusal.Refusal.{Refusal}
 use Rattle.case_file.specs.Refusals.{refusal-number, refusal-layer, refusal-place}
-use Rattle.walk_trace.specs.declared.triangles.Triangle.{Triangle}
+use Rattle.trace_text.specs.declared.triangles.Triangle.{Triangle}
 
 -- REFUSED, number, layer and place, parted by single spaces
 abbrev pub refused-with : (number layer place : ℕ) → List ℕ

@@ -6,7 +6,7 @@ use Rattle.std.specs.declared.option.Option.{Option}
 use Rattle.std.specs.declared.option.Option.the-variants.{Some}
 use Rattle.triangulations.specs.Triangulations.{Table}
 use Rattle.polygon_counting.specs.Polygons.{and-then}
-use Rattle.walk_trace.specs.declared.triangles.Triangle.{Triangle}
+use Rattle.trace_text.specs.declared.triangles.Triangle.{Triangle}
 
 abbrev pub smallest-first : (x y z : ℕ) → Triangle
 smallest-first x y z =

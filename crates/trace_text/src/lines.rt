@@ -4,7 +4,7 @@ ghost use Rattle.triangulations.specs.declared.step.Label.the-variants.{Turn, S
 ghost use Rattle.std.specs.Of.String.{string-bytes};
 ghost use Rattle.std.specs.Vec.{made};
 ghost use Rattle.triangulations.specs.Meaning.{meant, meant-flip, meant-label};
-ghost use Rattle.walk_trace.specs.Lines.{refused-text, punctures-text, corners-text, triangle-text, made-text, exchange-text, step-text};
+ghost use Rattle.trace_text.specs.Lines.{refused-text, punctures-text, corners-text, triangle-text, made-text, exchange-text, step-text};
 use crate::triangles::Triangle;
 use case_file::refusal::Refusal;
 use std::alloc::AllocError;
