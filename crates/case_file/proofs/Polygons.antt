@@ -1,20 +1,17 @@
 -- A polygon that was read whole.
 use mathlib.Core.Path.{_≡_, sym, _∙_, ap}
-use mathlib.Core.Bool.{cond}
 use mathlib.Core.List.{List}
 use Prim.Native.Nat.{ℕ, _-_, _*_, _≤_}
 use lib.ListN.{length, drop}
 use Rattle.std.proofs.shelf.Tests.{le-ltb}
 use Rattle.std.specs.declared.option.Option.the-variants.{None}
-use Rattle.std.specs.declared.result.Result.{Result}
-use Rattle.std.specs.declared.result.Result.the-variants.{Ok, Err}
+use Rattle.std.specs.declared.result.Result.the-variants.{Ok}
 use Rattle.triangulations.specs.Triangulations.{Triangulation}
 use Rattle.polygon_counting.specs.declared.diagonal.Diagonal.{Diagonal}
 use Rattle.polygon_counting.specs.Polygons.{polygon}
 use Rattle.polygons.specs.Judging.{first-fault}
-use Rattle.case_file.specs.declared.refusal.Refusal.{Refusal}
 use Rattle.case_file.specs.declared.refusal.Refusal.the-variants.{EndsEarly}
-use Rattle.case_file.specs.Reading.{Position, refused-if, past}
+use Rattle.case_file.specs.Reading.{Position, refused-if}
 use Rattle.case_file.specs.Sections.{pairs-in, refused-by, polygon-at}
 
 pub polygon-read : (start n : ℕ) (p : Position) (ds : List Diagonal) (t : Triangulation) (rest : List ℕ)

@@ -4,7 +4,7 @@ use Rattle.exact.specs.Field.{Field, Laws}
 use Rattle.exact.specs.Flips.{flipped, Pentagon}
 use Rattle.exact.specs.Consequences.{Undoes, Turns, Five-cycle}
 use Rattle.exact.proofs.Normal.{Expr, _⊕_, _⊗_, _⊘_, _≗_, _≔_⇒_, prove}
-use Rattle.exact.proofs.Rearranged.{chain, plus, times, over}
+use Rattle.exact.proofs.Rearranged.{plus, times, over}
 
 -- A flip, as an expression.
 abbrev flip : Expr → Expr → Expr → Expr → Expr → Expr

@@ -2,7 +2,7 @@
 use mathlib.Core.List.{[], _∷_}
 use Rattle.exact.specs.Field.{Field, Laws}
 use Rattle.exact.specs.Consequences.{Cancels, Quotients}
-use Rattle.exact.proofs.Normal.{Expr, one, _⊕_, _⊗_, _⊘_, _≗_, _≔_⇒_, prove}
+use Rattle.exact.proofs.Normal.{_⊕_, _⊗_, _⊘_, _≗_, _≔_⇒_, prove}
 
 module _ {F : Field} (laws : Laws F) where
   pub cancels : Cancels F

@@ -1,13 +1,12 @@
 -- Common divisors: Euclid's lemma, and the one reduced form.
-use mathlib.Core.Path.{_≡_, refl, sym, ap, subst, _∙_}
+use mathlib.Core.Path.{_≡_, sym, ap, subst, _∙_}
 use mathlib.Core.Logic.{_⊎_, inl, inr, ⊎-elim}
 use Prim.Native.Nat.{ℕ, zero, suc, _+_, _-_, _*_, _/_, _%_, _≤_, _<_, _∣_}
-use native.Mathlib.Nat.{mod-lt, dvd-refl, dvd-zero, dvd-mul-right, dvd-mul-left, dvd-mul-right-of-dvd, dvd-add-iff-right, dvd-antisymm, dvd-one, dvd-of-mul-dvd-mul-left, mul-div-cancel', mul-dvd-mul-left, dvd-mod-iff, eq-of-mul-eq-mul-right, eq-of-mul-eq-mul-left}
+use native.Mathlib.Nat.{mod-lt, dvd-refl, dvd-zero, dvd-mul-right, dvd-mul-right-of-dvd, dvd-add-iff-right, dvd-antisymm, dvd-one, dvd-of-mul-dvd-mul-left, mul-div-cancel', mul-dvd-mul-left, dvd-mod-iff, eq-of-mul-eq-mul-right}
 use native.Mathlib.Omega.{arith}
-use Rattle.std.proofs.shelf.Ways.{leb-tells}
+use Rattle.std.proofs.shelf.Ways.{leb-tells, eqb-tells}
 use lib.Dec.{eqb}
 use mathlib.Core.Bool.{Bool, true, false}
-use Rattle.std.proofs.shelf.Ways.{eqb-tells}
 use Rattle.kinds.specs.Divisors.{Coprime, Gcd, euclid, euclid-in}
 
 -- a multiple of a is a multiple of b and g, where g divides both

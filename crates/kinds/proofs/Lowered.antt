@@ -1,18 +1,16 @@
 -- Fractions in lowest terms: the stored number of a value, and the laws.
-use mathlib.Core.Path.{_≡_, refl, sym, ap, subst, _∙_}
+use mathlib.Core.Path.{_≡_, refl, ap, subst, _∙_}
 use mathlib.Core.Bool.{true}
 use mathlib.Core.Logic.{_⊎_, inl, inr, ⊎-elim}
-use Prim.Native.Nat.{ℕ, suc, pred, _+_, _*_, _/_, _%_, _≤_, _<_, _∣_, _^_}
+use Prim.Native.Nat.{ℕ, suc, pred, _+_, _*_, _/_, _≤_, _<_, _∣_}
 use native.Mathlib.Nat.{eq-of-mul-eq-mul-left, mul-pos, dvd-one, div-le-self}
 use native.Mathlib.Omega.{arith}
 use lib.Dec.{eqb, leb}
-use lib.ListN.{length, length-append}
+use lib.ListN.{length-append}
 use Rattle.std.specs.Orderings.{Decides}
-use Rattle.std.specs.declared.option.Option.{Option}
 use Rattle.std.specs.declared.option.Option.the-variants.{Some, None}
 use Rattle.std.proofs.shelf.Ways.{decides-eqb, decides-like, leb-tells}
 use Rattle.std.proofs.shelf.Decimals.{length-decimal-le}
-use Rattle.std.specs.Written.{decimal}
 use Rattle.exact.specs.Models.{Ratio, same-ratio, ratio-sum, ratio-product, ratio-quotient}
 use Rattle.exact.proofs.Models.{ratios-laws}
 use Rattle.numbers.specs.Numbers.{Lawful, Stands, Held}

@@ -1,17 +1,14 @@
 -- The laws of the weights.
-use mathlib.Core.Path.{_≡_, refl, sym, ap, subst, _∙_}
+use mathlib.Core.Path.{_≡_, refl, sym, ap, subst}
 use mathlib.Core.Bool.{Bool, true, false, cond, _&&_}
-use Prim.Native.Nat.{ℕ, _≤_, _<_}
+use Prim.Native.Nat.{ℕ, _≤_}
 use native.Mathlib.Omega.{arith}
 use lib.Dec.{T}
 use lib.IntN.{ℤ, pos, negsuc, negℤ}
-use lib.ListN.{length}
 use lib.Signed.{_≤ℤ_, leZ, mag}
 use Rattle.std.proofs.shelf.Signed.{ints}
 use Rattle.std.proofs.shelf.Decimals.{length-signed-le}
-use Rattle.std.specs.declared.option.Option.{Option}
 use Rattle.std.specs.declared.option.Option.the-variants.{Some, None}
-use Rattle.std.specs.Written.{signed}
 use Rattle.exact.proofs.Models.{integers-laws}
 use Rattle.numbers.specs.Numbers.{Lawful, Stands, Held}
 use Rattle.numbers.specs.Layouts.{Bounded}

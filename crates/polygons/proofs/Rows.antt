@@ -1,5 +1,5 @@
 -- Walks on stored triangulations of seven edges, by evaluation: the rows that a walk passes are written down, and each step is tested.
-use Prim.Native.Nat.{ℕ, _*_, _≤_, _<_}
+use Prim.Native.Nat.{ℕ, _<_}
 use native.Mathlib.Omega.{arith}
 use native.Mathlib.Decide.{decLt}
 use mathlib.Core.Path.{_≡_, refl, sym, _∙_, ap, fun-ext, subst}

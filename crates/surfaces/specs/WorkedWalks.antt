@@ -4,7 +4,7 @@ use mathlib.Core.Path.{_≡_}
 use mathlib.Core.List.{List, [], _∷_, _++_}
 use Rattle.std.specs.declared.option.Option.the-variants.{Some}
 use Rattle.triangulations.specs.Triangulations.{Triangulation, after}
-use Rattle.triangulations.specs.Steps.{Step, L, Legal, leads}
+use Rattle.triangulations.specs.Steps.{L, Legal, leads}
 use Rattle.surfaces.specs.Torus.{torus}
 
 -- x, y, z is a triangle of t

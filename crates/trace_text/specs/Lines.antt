@@ -1,5 +1,5 @@
 -- The text of refusals, steps and triangles.
-use mathlib.Core.List.{List, [], _∷_, _++_}
+use mathlib.Core.List.{List, [], _++_}
 use Prim.Native.Nat.{ℕ, _+_, _*_}
 use lib.Chars.{codes}
 use Rattle.std.specs.Written.{decimal}

@@ -1,4 +1,4 @@
--- Flips keep the law, and undo one another.
+-- Flips keep the laws and undo one another, and two of them are a turn.
 use Prim.Native.Nat.{ℕ, _+_, _*_, _<_}
 use mathlib.Core.Path.{_≡_, refl, sym, _∙_, ap, subst}
 use mathlib.Core.Logic.{_≢_, _⊎_, inl, inr}
@@ -30,13 +30,6 @@ module _ (t : Triangulation) (law : Lawful t) (φ : ℕ → ℕ) (n : ℕ) (σ :
       go : ((k : ℕ) × (k < n) × (x ≡ φ k)) ⊎ Off φ n x → t .next x ≡ None
       go (inl (k, h, p)) = absurd (some-none _ (sym (ap t′ p ∙ v .sits k h) ∙ e))
       go (inr o) = sym (v .rest x o) ∙ e
-
-  none-after : (x : ℕ) → t .next x ≡ None → t′ x ≡ None
-  none-after x e = go (named φ n x)
-    where
-      go : ((k : ℕ) × (k < n) × (x ≡ φ k)) ⊎ Off φ n x → t′ x ≡ None
-      go (inl (k, h, p)) = absurd (some-none _ (sym (ap (t .next) p ∙ fr .seen .sits k h) ∙ e))
-      go (inr o) = v .rest x o ∙ e
 
   module _ (c : Yes (lawful-below n σ′)) where
     seen-follows : (d a : ℕ) → t′ d ≡ Some a → (b : ℕ) × (t′ a ≡ Some b)

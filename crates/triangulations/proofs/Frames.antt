@@ -1,5 +1,5 @@
 -- Tables seen through names: darts φ 0, .., φ (n - 1), all different, on which a table does what a closed function σ does to the numbers below n.
-use Prim.Native.Nat.{ℕ, zero, suc, _-_, _<_}
+use Prim.Native.Nat.{ℕ, zero, suc, _<_}
 use native.Mathlib.Omega.{arith}
 use native.Mathlib.Decide.{ℕ-discrete}
 use mathlib.Core.Path.{_≡_, refl, sym, _∙_, ap, fun-ext, subst}
@@ -138,7 +138,7 @@ module _ (φ : ℕ → ℕ) (n : ℕ) (apart : Apart n φ) (t₀ : Table) where
       → ((x y : ℕ) → Off φ n x → t₀ x ≡ Some y → Off φ n y)
       → (σ : ℕ → ℕ) (t : Table) → Seen φ n t₀ σ t → Seen φ n t₀ (λ k. ρ (σ (ρ k))) (relabelled π t)
   unfolding relabelled
-  seen-relabel π ρ cρ on off stays-off σ t v = record {
+  seen-relabel π ρ cρ on off far σ t v = record {
     sits = λ k h. ap (λ x. renamed π (t x)) (on k h) ∙ (ap (renamed π) (v .sits (ρ k) (cρ k h)) ∙ ap Some (on (σ (ρ k)) (v .closed _ (cρ k h))));
     rest = λ x o. ap (λ y. renamed π (t y)) (off x o) ∙ (ap (renamed π) (v .rest x o) ∙ go x o (t₀ x) refl);
     closed = λ k h. cρ _ (v .closed _ (cρ k h));
@@ -146,7 +146,7 @@ module _ (φ : ℕ → ℕ) (n : ℕ) (apart : Apart n φ) (t₀ : Table) where
     where
       go : (x : ℕ) → Off φ n x → (r : Option ℕ) → t₀ x ≡ r → renamed π r ≡ r
       go x o None e = refl
-      go x o (Some y) e = ap Some (off y (stays-off x y o e))
+      go x o (Some y) e = ap Some (off y (far x y o e))
 
   pub seen-same : (σ σ′ : ℕ → ℕ) (t t′ : Table) → ((k : ℕ) → k < n → σ k ≡ σ′ k) → Seen φ n t₀ σ t → Seen φ n t₀ σ′ t′ → t ≡ t′
   seen-same σ σ′ t t′ e v v′ = fun-ext (λ x. go x (named φ n x))

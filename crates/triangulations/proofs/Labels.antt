@@ -1,4 +1,4 @@
--- The label steps keep the law and legality, and pass every step.
+-- The label steps undo themselves and keep the laws.
 use Prim.Native.Nat.{ℕ, _+_, _*_, _<_}
 use native.Mathlib.Omega.{arith}
 use native.Mathlib.Decide.{ℕ-discrete}
@@ -6,7 +6,7 @@ use mathlib.Core.Path.{_≡_, refl, sym, _∙_, ap, subst}
 use mathlib.Core.Logic.{_⊎_, inl, inr}
 use Rattle.std.specs.declared.option.Option.{Option}
 use Rattle.std.specs.declared.option.Option.the-variants.{None, Some}
-use Rattle.triangulations.specs.Triangulations.{Table, Triangulation, Lawful, after, edge-of}
+use Rattle.triangulations.specs.Triangulations.{Table, Triangulation, Lawful, edge-of}
 use Rattle.triangulations.specs.Steps.{renamed, turn, exchanged, swap, relabelled, Step, L, R, T, S, stepped, apply-step, Legal-step}
 use Rattle.triangulations.proofs.Triangles.{turn-even, turn-odd, turn-else}
 use Rattle.triangulations.proofs.Flips.{some-none, some-inj, L-lawful, R-lawful}
@@ -18,7 +18,7 @@ turn-twice e t = relabelled-twice (turn e) (turn-own e) t
 pub swap-twice : (e f : ℕ) (t : Table) → stepped (S e f) (stepped (S e f) t) ≡ t
 swap-twice e f t = relabelled-twice (swap e f) (swap-own e f) t
 
--- new names keep the law
+-- π takes the darts of each edge below n to those of an edge below n
 pub Keeps : (ℕ → ℕ) → ℕ → Type 0
 Keeps π n = (k : ℕ) → k < n → (l : ℕ) × (l < n) × (((π (2 * k) ≡ 2 * l) × (π (2 * k + 1) ≡ 2 * l + 1)) ⊎ ((π (2 * k) ≡ 2 * l + 1) × (π (2 * k + 1) ≡ 2 * l)))
 

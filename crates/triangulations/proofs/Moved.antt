@@ -3,7 +3,6 @@ use Prim.Native.Nat.{ℕ, _+_, _*_, _≤_, _<_}
 use native.Mathlib.Omega.{arith}
 use native.Mathlib.Decide.{decLt}
 use mathlib.Core.Path.{_≡_, refl, sym, _∙_, ap, fun-ext, subst}
-use mathlib.Core.Logic.{_≢_}
 use mathlib.Core.List.{List}
 use mathlib.Core.Bool.{Bool, true, false, not, _&&_, _||_}
 use lib.Dec.{eqb}
@@ -11,13 +10,10 @@ use lib.Dec.{T as Yes}
 use lib.ListN.{length, getD}
 use borrow.Author.Tests.{ne-eqb}
 use Rattle.std.specs.declared.option.Option.{Option}
-use Rattle.std.specs.declared.option.Option.the-variants.{None, Some}
-use Rattle.triangulations.specs.Triangulations.{is-some, Table, Triangulation, Lawful, after, inside, together, flippable, meets, shares, edge-of}
-use Rattle.triangulations.specs.Steps.{left, right, T, S, triangle-in, with-d, with-p, flipped-by, flipped, relabelled, renamed, stepped, apply-step, Legal-step, turn, swap}
+use Rattle.triangulations.specs.Triangulations.{is-some, Table, Triangulation, Lawful, after, inside, together, flippable, meets, shares}
+use Rattle.triangulations.specs.Steps.{left, right, triangle-in, with-d, with-p, flipped-by, flipped, relabelled, renamed, stepped, apply-step, Legal-step, flip-step, Direction}
 use Rattle.triangulations.specs.Steps.{Step as Move}
-use Rattle.triangulations.specs.Steps.{flip-step}
 use Rattle.std.specs.Orderings.{Decides}
-use Rattle.triangulations.specs.Steps.{Direction}
 use Rattle.triangulations.specs.Stored.{table-of, stored, Within, written, lawful-list}
 use Rattle.triangulations.proofs.Undoing.{flippable-edge}
 use Rattle.triangulations.proofs.Stored.{table-triangle, beyond, lawful-from-list, list-from-lawful}

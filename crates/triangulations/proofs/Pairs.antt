@@ -1,4 +1,4 @@
--- The steps on named darts, and the frames of two, three and four triangles.
+-- The flips and turns on named darts, and the frame of two triangles.
 use Prim.Native.Nat.{ℕ, _+_, _*_, _<_}
 use native.Mathlib.Omega.{arith}
 use native.Mathlib.Decide.{ℕ-discrete}
@@ -60,7 +60,7 @@ module _ (φ : ℕ → ℕ) (n : ℕ) (ap-φ : Apart n φ) (t₀ : Table) (far :
 abbrev pub σ₆ : ℕ → ℕ
 σ₆ = tri 0 1 2 (tri 3 4 5 (λ k. k))
 
--- a closed test that σ keeps below n, moves each number and stays-off back in three steps
+-- a closed test that σ keeps below n, moves each number and leads back in three steps
 abbrev pub lawful-below : ℕ → (ℕ → ℕ) → Bool
 lawful-below n σ = all-below n (λ k. ltb (σ k) n && (not (eqb (σ k) k) && eqb (σ (σ (σ k))) k))
 

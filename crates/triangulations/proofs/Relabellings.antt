@@ -1,4 +1,4 @@
--- New names for the darts: flips commute with them, and the label steps keep the law and pass every step.
+-- New names for the darts: turns and swaps are their own inverse.
 use Prim.Native.Nat.{ℕ, _+_, _*_, _/_, _%_, _<_}
 use native.Mathlib.Omega.{arith}
 use native.Mathlib.Decide.{ℕ-discrete}

@@ -4,7 +4,7 @@ use native.Mathlib.Omega.{arith}
 use native.Mathlib.Numerals.{add-one}
 use native.Mathlib.Decide.{ℕ-discrete, decLt}
 use mathlib.Core.Path.{_≡_, refl, sym, _∙_, ap, fun-ext, subst}
-use mathlib.Core.List.{List, [], _∷_}
+use mathlib.Core.List.{List, []}
 use mathlib.Core.Bool.{Bool, true, false, cond, not, _&&_, _||_}
 use lib.Dec.{eqb, eqb→eq, ltb→lt, lt→ltb}
 use lib.Dec.{T as Yes}
@@ -68,13 +68,6 @@ lawful-by-test n t bound c = record {
         let u : Yes (inside t (2 * e) || inside t (2 * e + 1)) =
         at-below n (covers t) (and-r (all-below (2 * n) (λ d. turns-back t d (t d))) _ c) e h in
         subst (λ r. Yes (is-some r)) q (subst (λ r. Yes (is-some r || inside t (2 * e + 1))) p u)
-
-pub stored-lawful : (n : ℕ) (xs : List (Option ℕ)) → length xs ≡ 2 * n → Yes (lawful-test n (table-of xs)) → Lawful (record { edges = n; next = table-of xs })
-stored-lawful n xs l c = lawful-by-test n (table-of xs) (λ d a e. go d a e (decLt d (2 * n))) c
-  where
-    go : (d a : ℕ) → table-of xs d ≡ Some a → Dec (d < 2 * n) → d < 2 * n
-    go d a e (yes h) = h
-    go d a e (no h) = absurd (some-none a (sym e ∙ beyond xs d (omega arith)))
 
 -- the test of a list, and back
 pub both : (a b : Bool) → Yes a → Yes b → Yes (a && b)

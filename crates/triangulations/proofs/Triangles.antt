@@ -96,7 +96,7 @@ module _ (t : Triangulation) (law : Lawful t) where
       let fc : Fresh c (x ∷ y ∷ z ∷ []) = off-next x y z r p c (s .one) f in
       (f, (fc, (off-next x y z r c g (s .two) fc, tt)))
 
-  -- the table stays-off from what has no name to what has none
+  -- the table leads from what has no name to what has none
   pub stays-off : (φ : ℕ → ℕ) (n : ℕ) (σ : ℕ → ℕ) → Sits φ n σ (t .next) → Closed n σ → ((k : ℕ) → k < n → σ (σ (σ k)) ≡ k)
       → (x y : ℕ) → Off φ n x → t .next x ≡ Some y → Off φ n y
   stays-off φ n σ s c r x y o e k h q =

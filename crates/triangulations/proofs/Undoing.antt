@@ -2,7 +2,7 @@
 use Prim.Native.Nat.{ℕ, _*_, _<_}
 use native.Mathlib.Omega.{arith}
 use mathlib.Core.Path.{_≡_, refl}
-use mathlib.Core.List.{List, [], _∷_}
+use mathlib.Core.List.{[]}
 use lib.Dec.{T as Yes}
 use Rattle.triangulations.specs.Triangulations.{Triangulation, Table, Lawful, flippable}
 use Rattle.triangulations.specs.Steps.{Step, L, R, T, S, Direction, left, right, opposite, flip-step, inverse}

@@ -1,6 +1,6 @@
 -- What the steps of the code mean.
 use Prim.Native.Nat.{ℕ, _<_}
-use Rattle.triangulations.specs.Steps.{L, R, T, S, Direction, left, right, flip-step, turn, swap}
+use Rattle.triangulations.specs.Steps.{T, S, Direction, left, right, flip-step, turn, swap}
 use Rattle.triangulations.specs.Steps.{Step as Move}
 use Rattle.triangulations.specs.declared.step.Side.{Side}
 use Rattle.triangulations.specs.declared.step.Side.the-variants.{Left, Right}

@@ -1,7 +1,6 @@
 -- Step records: three bytes, a code and two edge names e and f. Codes 0 to 3 are L(e), R(e), T(e) and S(e, f); f is 0 where it is not used.
-use mathlib.Core.Path.{_≡_}
 use mathlib.Core.List.{List, [], _∷_}
-use mathlib.Core.Bool.{Bool, true, false, cond, not, _&&_, _||_}
+use mathlib.Core.Bool.{Bool, cond, not, _&&_, _||_}
 use Prim.Native.Nat.{ℕ}
 use lib.Dec.{eqb, ltb, leb}
 use lib.ListN.{getD}

@@ -1,6 +1,6 @@
 -- What holds of the steps on every lawful triangulation.
 use mathlib.Core.Path.{_≡_}
-use mathlib.Core.List.{List, [], _∷_}
+use mathlib.Core.List.{[], _∷_}
 use Rattle.triangulations.specs.Triangulations.{Triangulation, Lawful}
 use Rattle.triangulations.specs.Steps.{Step, apply-step, Legal-step, Legal, leads}
 

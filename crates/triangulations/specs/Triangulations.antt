@@ -1,6 +1,6 @@
 -- Labelled triangulations. A surface is cut into triangles along E edges, named 0 to E - 1. Edge e has two darts, 2 e and 2 e + 1,
 -- its two directions. A dart has a triangle on its left, or it lies outside.
-use Prim.Native.Nat.{ℕ, _+_, _-_, _*_, _/_, _%_, _≤_, _<_}
+use Prim.Native.Nat.{ℕ, _+_, _-_, _*_, _/_, _%_, _<_}
 use mathlib.Core.Path.{_≡_}
 use mathlib.Core.Logic.{_≢_}
 use mathlib.Core.Bool.{Bool, true, false, not, _&&_, _||_}

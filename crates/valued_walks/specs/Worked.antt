@@ -5,8 +5,7 @@ use mathlib.Core.Path.{_≡_}
 use mathlib.Core.List.{List, [], _∷_}
 use lib.ListN.{getD}
 use Rattle.std.specs.declared.result.Result.{Result}
-use Rattle.std.specs.declared.result.Result.the-variants.{Ok, Err}
-use Rattle.triangulations.specs.Triangulations.{Triangulation}
+use Rattle.std.specs.declared.result.Result.the-variants.{Ok}
 use Rattle.triangulations.specs.Steps.{Step, L}
 use Rattle.surfaces.specs.Torus.{torus}
 use Rattle.polygons.specs.WorkedWalks.{pentagon}

@@ -1,17 +1,11 @@
-use Prim.Native.Nat.{ℕ}
 use mathlib.Core.Path.{_≡_, refl, sym, _∙_, ap, subst}
 use mathlib.Core.List.{List, [], _∷_}
-use Rattle.std.specs.declared.result.Result.{Result}
-use Rattle.std.specs.declared.result.Result.the-variants.{Ok}
-use Rattle.triangulations.specs.Triangulations.{Triangulation}
 use Rattle.triangulations.specs.Steps.{Step, L, flipped-by, triangle}
 use Rattle.triangulations.specs.Stored.{stored}
 use Rattle.polygons.proofs.Pentagon.{row0, is-row0}
-use Rattle.numbers.specs.declared.fault.CarryFault.{CarryFault}
-use Rattle.kinds.specs.declared.fraction.Fraction.{Fraction}
 use Rattle.kinds.specs.Fractions.{fractions}
 use Rattle.valued_walks.specs.Carrying.{carried, rows-of}
-use Rattle.valued_walks.specs.Worked.{whole, fractions-on-pentagon, with-diagonals, Pentagon-fractions}
+use Rattle.valued_walks.specs.Worked.{whole, fractions-on-pentagon, Pentagon-fractions}
 use Rattle.valued_walks.proofs.pentagon_fractions.Needs as need
 
 -- the pentagon's table written out

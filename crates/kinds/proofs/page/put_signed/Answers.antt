@@ -1,4 +1,4 @@
-use mathlib.Core.Path.{_≡_, refl, sym, ap, subst, _∙_}
+use mathlib.Core.Path.{_≡_, sym, ap, subst, _∙_}
 use Prim.Native.Nat.{ℕ}
 use mathlib.Core.Bool.{true, false}
 use mathlib.Core.List.{List}
@@ -6,7 +6,7 @@ use lib.IntN.{ℤ, pos, natAbs}
 use lib.Signed.{ltZ}
 use mir.Syntax.{w64}
 use Rattle.std.proofs.shelf.Signed.{toZ-ofZ}
-use Rattle.std.specs.Written.{signed, decimal}
+use Rattle.std.specs.Written.{decimal}
 use Rattle.kinds.specs.Pages.{Puts}
 use Rattle.kinds.proofs.Texts.{puts-then, puts-moved, signed-below, signed-from}
 use Rattle.kinds.proofs.page.put_signed.Needs as need

@@ -1,6 +1,5 @@
-use mathlib.Core.Path.{_≡_, refl, sym, ap, subst, _∙_}
+use mathlib.Core.Path.{sym, _∙_}
 use Rattle.std.proofs.shelf.Results.{err-from-errBy}
-use Rattle.numbers.specs.Numbers.{Numbers, Stands}
 use Rattle.numbers.proofs.Answered.{answers-same}
 use Rattle.numbers.proofs.Flipped.{stands-from, refused-from, contract}
 use Rattle.numbers.proofs.ptolemy.new_value.Needs as need

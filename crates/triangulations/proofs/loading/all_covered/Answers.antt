@@ -1,9 +1,5 @@
-use native.Mathlib.Omega.{arith}
-use mathlib.Core.Path.{_≡_, sym, _∙_, ap}
-use mathlib.Core.Bool.{_||_}
-use Prim.Native.Nat.{_+_, _*_}
-use Rattle.triangulations.specs.Triangulations.{inside}
-use Rattle.triangulations.specs.Stored.{table-of, all-below, covers}
+use mathlib.Core.Path.{sym, _∙_}
+use Rattle.triangulations.specs.Stored.{table-of, covers}
 use Rattle.triangulations.proofs.Stored.{below-more, below-fails}
 use Rattle.triangulations.proofs.loading.all_covered.Needs as need
 

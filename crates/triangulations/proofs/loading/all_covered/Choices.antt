@@ -1,7 +1,5 @@
 use mathlib.Core.Path.{_≡_}
-use mathlib.Core.Bool.{true, _||_}
-use Prim.Native.Nat.{_+_, _*_}
-use Rattle.triangulations.specs.Triangulations.{inside}
+use mathlib.Core.Bool.{true}
 use Rattle.triangulations.specs.Stored.{table-of, all-below, covers}
 use Rattle.triangulations.proofs.loading.all_covered.Given as given
 

@@ -1,6 +1,5 @@
-use native.Mathlib.Omega.{arith}
-use mathlib.Core.Path.{_≡_, sym, _∙_, ap}
-use Rattle.triangulations.specs.Stored.{table-of, all-below, turns-back}
+use mathlib.Core.Path.{sym, _∙_}
+use Rattle.triangulations.specs.Stored.{table-of, turns-back}
 use Rattle.triangulations.proofs.Stored.{below-more, below-fails}
 use Rattle.triangulations.proofs.loading.all_turn_back.Needs as need
 

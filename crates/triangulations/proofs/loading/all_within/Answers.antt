@@ -1,6 +1,5 @@
 use native.Mathlib.Omega.{arith}
 use mathlib.Core.Path.{_≡_, sym, _∙_, ap}
-use Prim.Native.Nat.{ℕ}
 use Rattle.triangulations.specs.Stored.{table-of, all-below, within}
 use Rattle.triangulations.proofs.Stored.{below-more, below-fails}
 use Rattle.triangulations.proofs.loading.all_within.Needs as need

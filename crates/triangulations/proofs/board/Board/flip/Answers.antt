@@ -1,7 +1,5 @@
 use native.Mathlib.Omega.{arith}
-use mathlib.Core.Path.{_≡_, refl, _∙_}
-use Prim.Native.Nat.{_<_}
-use lib.ListN.{length}
+use mathlib.Core.Path.{refl}
 use Rattle.triangulations.specs.Steps.{with-d}
 use Rattle.triangulations.specs.Meaning.{direction}
 use Rattle.triangulations.proofs.Moved.{flippable-small, one-within, other-within, flip-kept}

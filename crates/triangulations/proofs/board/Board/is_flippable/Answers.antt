@@ -1,7 +1,6 @@
 use mathlib.Core.Path.{sym}
 use native.Mathlib.Omega.{arith}
 use borrow.Author.Needs.{needs}
-use Rattle.triangulations.specs.Triangulations.{flippable}
 use Rattle.triangulations.proofs.Moved.{flippable-past}
 use Rattle.triangulations.proofs.board.Board.is_flippable.Needs as need
 

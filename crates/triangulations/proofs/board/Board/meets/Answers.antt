@@ -1,5 +1,4 @@
 use borrow.Author.Needs.{needs}
-use Rattle.triangulations.specs.Triangulations.{meets}
 use Rattle.triangulations.proofs.board.Board.meets.Needs as need
 
 pub returns-then-together : need.returns-then-together

@@ -1,10 +1,5 @@
 use native.Mathlib.Omega.{arith}
 use mathlib.Core.Path.{refl}
-use lib.ListN.{replicate}
-use Rattle.std.proofs.shelf.Lists.{getD-replicate}
-use Rattle.std.specs.declared.option.Option.the-variants.{None}
-use Prim.Native.Nat.{ℕ}
-use Rattle.std.specs.declared.option.Option.{Option}
 use Rattle.triangulations.specs.Stored.{lawful-list}
 use Rattle.triangulations.proofs.Stored.{none-stored}
 use Rattle.triangulations.proofs.board.Board.new.Needs as need

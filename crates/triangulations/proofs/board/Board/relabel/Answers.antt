@@ -1,17 +1,15 @@
 use native.Mathlib.Omega.{arith}
-use mathlib.Core.Path.{_≡_, refl, sym, _∙_, ap, subst}
+use mathlib.Core.Path.{refl, sym, _∙_, ap}
 use mathlib.Core.Logic.{_≢_}
-use Prim.Native.Nat.{ℕ, _<_}
+use Prim.Native.Nat.{_<_}
 use lib.ListN.{length}
 use lib.Seq.{getD-set-same, getD-set-other}
 use borrow.Author.Count.{below-more}
-use borrow.Author.Needs.{needs}
 use Rattle.std.proofs.shelf.Lists.{length-set}
-use Rattle.triangulations.specs.Steps.{renamed, stepped}
-use Rattle.triangulations.specs.Stored.{table-of}
+use Rattle.triangulations.specs.Steps.{renamed}
 use Rattle.triangulations.specs.Boards.{table, on}
 use Rattle.triangulations.specs.Meaning.{naming, meant-label}
-use Rattle.triangulations.proofs.Moved.{Kept, keeps, relabelled-board, label-stepped, label-legal}
+use Rattle.triangulations.proofs.Moved.{keeps, relabelled-board, label-stepped, label-legal}
 use Rattle.triangulations.proofs.board.Board.relabel.Needs as need
 
 pub loop-d-again : need.loop-d-again

@@ -1,7 +1,6 @@
 use mathlib.Core.Path.{sym}
 use mathlib.Core.Logic.{⊎-elim}
 use borrow.Author.Needs.{needs}
-use Rattle.triangulations.specs.Triangulations.{shares}
 use Rattle.triangulations.proofs.Moved.{shares-none, shares-past}
 use Rattle.triangulations.proofs.board.Board.shares.Needs as need
 

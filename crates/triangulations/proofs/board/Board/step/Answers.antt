@@ -1,4 +1,4 @@
-use mathlib.Core.Path.{_≡_, refl, sym, _∙_, ap, subst}
+use mathlib.Core.Path.{sym, _∙_, ap, subst}
 use mathlib.Core.Bool.{cond}
 use Rattle.std.specs.Orderings.{Decides}
 use Rattle.triangulations.specs.Steps.{Legal-step, apply-step}

@@ -1,6 +1,4 @@
 use borrow.Author.Needs.{needs}
-use native.Mathlib.Omega.{arith}
-use Rattle.std.proofs.shelf.Ways.{tells}
 use Rattle.triangulations.specs.Triangulations.{together}
 use Rattle.triangulations.proofs.board.Board.together.Needs as need
 
