@@ -21,7 +21,7 @@ impl Unstored {
 
 /// Whether each row is a stored number, and if not, the first that is none.
 pub fn judge<K: Kind>(rows: &[K]) -> Result<(), Unstored>
-    ensures { Judges numbers rows.now result }
+    ensures { Judges K.numbers rows.now result }
 {
     for (index, row) in rows.iter().enumerate() {
         if !row.is_stored() {

@@ -8,8 +8,8 @@ use crate::kind::Kind;
 
 /// The stored number of (a·c + b·g) ÷ e, or the first operation that has no stored result.
 pub fn new_value<K: Kind>(a: K, b: K, c: K, g: K, e: K) -> Result<K, FlipFault>
-    ensures flips { AllStored numbers a b c g e → Flips numbers a b c g e result }
-    ensures result { AllStored numbers a b c g e → result ≡ flip_result numbers a b c g e }
+    ensures flips { AllStored K.numbers a b c g e → Flips K.numbers a b c g e result }
+    ensures result { AllStored K.numbers a b c g e → result ≡ flip_result K.numbers a b c g e }
 {
     let first = at(Operation::FirstProduct, a.product(c))?;
     let second = at(Operation::SecondProduct, b.product(g))?;
@@ -20,7 +20,7 @@ pub fn new_value<K: Kind>(a: K, b: K, c: K, g: K, e: K) -> Result<K, FlipFault>
 
 /// The same at a step of a walk, which a refusal tells.
 pub fn value_at_step<K: Kind>(step: usize, a: K, b: K, c: K, g: K, e: K) -> Result<K, CarryFault>
-    ensures { AllStored numbers a b c g e → result ≡ at_step step (flip_result numbers a b c g e) }
+    ensures { AllStored K.numbers a b c g e → result ≡ at_step step (flip_result K.numbers a b c g e) }
 {
     let value = at(step, new_value(a, b, c, g, e))?;
     Ok(value)

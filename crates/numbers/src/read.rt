@@ -62,7 +62,7 @@ impl From<RunFault> for MarkedFault {
 
 /// Whether a mark is that of the kind.
 pub fn is_marked<K: Kind>(mark: u8) -> bool
-    ensures { Decides result (mark ≡ layout.mark) }
+    ensures { Decides result (mark ≡ K.layout.mark) }
 {
     let (own, _) = K::shape();
     mark == own
@@ -70,7 +70,7 @@ pub fn is_marked<K: Kind>(mark: u8) -> bool
 
 /// The number at the front of the bytes.
 pub fn read_number<K: Kind>(bytes: &[u8]) -> Result<K, ReadFault>
-    ensures { ReadsFront numbers layout bytes.now result }
+    ensures { ReadsFront K.numbers K.layout bytes.now result }
 {
     let (_, width) = K::shape();
     if bytes.len() < width {
@@ -85,7 +85,7 @@ pub fn read_number<K: Kind>(bytes: &[u8]) -> Result<K, ReadFault>
 
 /// Reads a number into each row, one after the other. The rows from the first that is refused on stay as they were.
 pub fn read_run<K: Kind>(bytes: &[u8], rows: &mut [K]) -> Result<(), RunFault>
-    ensures { ReadsRun numbers layout bytes.now rows.old rows.new result }
+    ensures { ReadsRun K.numbers K.layout bytes.now rows.old rows.new result }
 {
     let (_, width) = K::shape();
     let mut rest = bytes;
@@ -101,7 +101,7 @@ pub fn read_run<K: Kind>(bytes: &[u8], rows: &mut [K]) -> Result<(), RunFault>
 
 /// Reads the kind's mark, and then a number into each row.
 pub fn read_marked<K: Kind>(bytes: &[u8], rows: &mut [K]) -> Result<(), MarkedFault>
-    ensures { ReadsMarked numbers layout bytes.now rows.old rows.new result }
+    ensures { ReadsMarked K.numbers K.layout bytes.now rows.old rows.new result }
 {
     let [mark, run @ ..] = bytes else {
         return Err(MarkedFault::NoMark);

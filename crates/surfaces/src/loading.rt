@@ -8,7 +8,7 @@ use triangulations::darts::Dart;
 
 /// Asks a surface for its table and puts it on the board, whatever the board held before.
 pub fn load<S: Surface>(surface: &S, board: &mut Board)
-    ensures { on board.new ≡ triangulation surface.now }
+    ensures { on board.new ≡ S.triangulation surface.now }
 {
     let table = ask_table(surface);
     // granted, since the triangulation of every surface is lawful
@@ -16,7 +16,7 @@ pub fn load<S: Surface>(surface: &S, board: &mut Board)
 }
 
 fn ask_table<S: Surface>(surface: &S) -> [Option<Dart>; 128]
-    ensures { table_of result ≡ (triangulation surface.now).next }
+    ensures { table_of result ≡ (S.triangulation surface.now).next }
 {
     let mut table = [None; 128];
     for d in 0..128u8 {

@@ -17,11 +17,11 @@ returns-in-Err g c =
 pub loop-index-init : goal.loop-index-init
 loop-index-init g c = (run_none _ _, from_none g.K.Kind.numbers g.K.Kind.layout c.args.bytes.now, ap (λ (p : ℕ × ℕ). p.1) c.shape-width.ensures)
 
-pub slice-bounds-rest-count : goal.slice-bounds-rest-count
-slice-bounds-rest-count g c = omega (arith, c.loop-index.invariant.2, row_long c.loop-index.rest.now c.in-Ok.ensures)
+pub slice_bounds-rest-count : goal.slice_bounds-rest-count
+slice_bounds-rest-count g c = omega (arith, c.loop-index.invariant.2, row_long c.loop-index.rest.now c.in-Ok.ensures)
 
-pub slice-bounds-rest-start : goal.slice-bounds-rest-start
-slice-bounds-rest-start g c = omega (arith, c.loop-index.invariant.2, row_long c.loop-index.rest.now c.in-Ok.ensures)
+pub slice_bounds-rest-start : goal.slice_bounds-rest-start
+slice_bounds-rest-start g c = omega (arith, c.loop-index.invariant.2, row_long c.loop-index.rest.now c.in-Ok.ensures)
 
 pub loop-index-preserved : goal.loop-index-preserved
 loop-index-preserved g c =

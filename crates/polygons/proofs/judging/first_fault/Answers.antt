@@ -7,7 +7,7 @@ pub returns-in-Some : goal.returns-in-Some
 returns-in-Some c = sym (some_first c.args.corners c.args.diagonals.now c.loop-k.k c.in-Some.fault (omega arith) c.loop-k.invariant (sym c.in-Some.ensures))
 
 pub loop-k-preserved : goal.loop-k-preserved
-loop-k-preserved c = none_more c.args.corners c.args.diagonals.now c.loop-k.k c.loop-k.invariant (sym c.in-default.ensures)
+loop-k-preserved c = none_more c.args.corners c.args.diagonals.now c.loop-k.k c.loop-k.invariant (sym c.in_default.ensures)
 
 pub returns : goal.returns
 unfolding first_fault

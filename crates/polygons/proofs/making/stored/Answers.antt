@@ -9,6 +9,6 @@ returns c =
     let blank : List Diagonal = replicate 30 (record { low = 0; high = 0 }) in
     let few = c.requires in
     record {
-      whole = length_written blank ds c.copy-from-slice.new.self (length ds - 0) (omega arith) c.copy-from-slice.ensures.after (omega arith);
-      front = front_written blank ds c.copy-from-slice.new.self (length ds - 0) c.copy-from-slice.ensures.after;
+      whole = length_written blank ds c.copy_from_slice.new.self (length ds - 0) (omega arith) c.copy_from_slice.ensures.after (omega arith);
+      front = front_written blank ds c.copy_from_slice.new.self (length ds - 0) c.copy_from_slice.ensures.after;
     }

@@ -8,7 +8,7 @@ pub returns : goal.returns
 returns g c =
     let t = g.S.Surface.triangulation c.args.surface.now in
     let sound = g.met.S.Surface.sound c.args.surface.now in
-    let asked : stored c.edges.result c.ask-table-table.result ≡ t = λ i. record { edges = c.edges.ensures i; next = c.ask-table-table.ensures i } in
+    let asked : stored c.edges.result c.ask_table-table.result ≡ t = λ i. record { edges = c.edges.ensures i; next = c.ask_table-table.ensures i } in
     let F : Triangulation → Type 0 = λ u. (u.edges ≤ 64) × Lawful u in
     let granted = c.load.ensures.granted.1 (subst F (sym asked) (sound.most, sound.lawful)) in
-    c.load.ensures.loaded ∙ (ap (λ b. cond b (stored c.edges.result c.ask-table-table.result) (on c.args.board.now)) granted ∙ asked)
+    c.load.ensures.loaded ∙ (ap (λ b. cond b (stored c.edges.result c.ask_table-table.result) (on c.args.board.now)) granted ∙ asked)

@@ -2,10 +2,10 @@ use Rattle.std.proofs.Common.{rules}
 use Rattle.triangulations.specs.Stored.{lawful_list}
 use Rattle.triangulations.proofs.loading.is_lawful.Goals as goal
 
-pub returns-then-all-turn-back : goal.returns-then-all-turn-back
+pub returns-then-all_turn_back : goal.returns-then-all_turn_back
 unfolding lawful_list
-returns-then-all-turn-back c = search rules
+returns-then-all_turn_back c = search rules
 
-pub returns-else-all-turn-back : goal.returns-else-all-turn-back
+pub returns-else-all_turn_back : goal.returns-else-all_turn_back
 unfolding lawful_list
-returns-else-all-turn-back c = search rules
+returns-else-all_turn_back c = search rules

@@ -7,9 +7,9 @@ use Rattle.numbers.proofs.Answered.{answers_same}
 use Rattle.kinds.proofs.fraction.FractionKind.sum.Goals as goal
 
 -- the cross products of stored numbers are small
-pub returns-in-default : goal.returns-in-default
-returns-in-default c h k =
-    absurd (c.in-default.ensures (omega (arith, mul-le _ _ _ _ h.numerator_to k.denominator_to, mul-le _ _ _ _ k.numerator_to h.denominator_to)))
+pub returns-in_default : goal.returns-in_default
+returns-in_default c h k =
+    absurd (c.in_default.ensures (omega (arith, mul-le _ _ _ _ h.numerator_to k.denominator_to, mul-le _ _ _ _ k.numerator_to h.denominator_to)))
 
 pub returns : goal.returns
 returns c h k =

@@ -9,18 +9,18 @@ use Rattle.kinds.proofs.weight.WeightKind.read.Goals as goal
 abbrev of_value : ℤ → Weight
 of_value z = record { value = z }
 
-pub returns-then-is-stored : goal.returns-then-is-stored
-returns-then-is-stored c =
+pub returns-then-is_stored : goal.returns-then-is_stored
+returns-then-is_stored c =
     let bytes = c.args.bytes.now in
     let long : length bytes ≡ 8 = search rules in
-    let fits : SFits w64 c.from-be-bytes.result = search rules in
-    let same = to_z-of_z w64 c.from-be-bytes.result fits ∙ c.from-be-bytes.ensures ∙ sym (ap (to_z w64) (eight bytes long).all) in
-    read_some weights weight_layout bytes _ (ap of_value same) c.is-stored.result c.is-stored.ensures long c.if-is-stored.true
+    let fits : SFits w64 c.from_be_bytes.result = search rules in
+    let same = to_z-of_z w64 c.from_be_bytes.result fits ∙ c.from_be_bytes.ensures ∙ sym (ap (to_z w64) (eight bytes long).all) in
+    read_some weights weight_layout bytes _ (ap of_value same) c.is_stored.result c.is_stored.ensures long c.if-is_stored.true
 
-pub returns-else-is-stored : goal.returns-else-is-stored
-returns-else-is-stored c =
+pub returns-else-is_stored : goal.returns-else-is_stored
+returns-else-is_stored c =
     let bytes = c.args.bytes.now in
     let long : length bytes ≡ 8 = search rules in
-    let fits : SFits w64 c.from-be-bytes.result = search rules in
-    let same = to_z-of_z w64 c.from-be-bytes.result fits ∙ c.from-be-bytes.ensures ∙ sym (ap (to_z w64) (eight bytes long).all) in
-    read_none weights weight_layout bytes _ (ap of_value same) c.is-stored.result c.is-stored.ensures c.if-is-stored.false
+    let fits : SFits w64 c.from_be_bytes.result = search rules in
+    let same = to_z-of_z w64 c.from_be_bytes.result fits ∙ c.from_be_bytes.ensures ∙ sym (ap (to_z w64) (eight bytes long).all) in
+    read_none weights weight_layout bytes _ (ap of_value same) c.is_stored.result c.is_stored.ensures c.if-is_stored.false

@@ -8,6 +8,6 @@ use Rattle.kinds.proofs.weight.WeightKind.text.Goals as goal
 pub returns : goal.returns
 returns c =
     let fits : SFits w64 c.args.self.value = search rules in
-    let P : ℤ → Type 0 = λ z. Puts 0 (signed_decimal z) c.put-signed.result c.args.out.now c.put-signed.new.out in
-    let room : c.put-signed.result ≤ length c.args.out.now = omega (arith, c.put-signed.ensures.ends, c.put-signed-needed.ensures.ends) in
-    written (subst P (to_z-of_z w64 c.args.self.value fits) c.put-signed.ensures) room
+    let P : ℤ → Type 0 = λ z. Puts 0 (signed_decimal z) c.put_signed.result c.args.out.now c.put_signed.new.out in
+    let room : c.put_signed.result ≤ length c.args.out.now = omega (arith, c.put_signed.ensures.ends, c.put_signed-needed.ensures.ends) in
+    written (subst P (to_z-of_z w64 c.args.self.value fits) c.put_signed.ensures) room

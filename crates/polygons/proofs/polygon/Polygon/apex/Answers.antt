@@ -4,14 +4,14 @@ use Rattle.polygon_counting.proofs.Searching.{first_found, none_found}
 use Rattle.polygons.specs.Meaning.{cut_by}
 use Rattle.polygons.proofs.polygon.Polygon.apex.Goals as goal
 
-pub returns-then-is-closed-by : goal.returns-then-is-closed-by
+pub returns-then-is_closed_by : goal.returns-then-is_closed_by
 unfolding apex
-returns-then-is-closed-by c =
+returns-then-is_closed_by c =
     let s = c.args.self.now in
-    sym (first_found s.corners (closes s.corners (cut_by s) c.args.u c.args.v) c.loop-w.w c.loop-w-test.true (sym c.if-is-closed-by.ensures) c.loop-w.invariant)
+    sym (first_found s.corners (closes s.corners (cut_by s) c.args.u c.args.v) c.loop-w.w c.loop-w-test.true (sym c.if-is_closed_by.ensures) c.loop-w.invariant)
 
 pub loop-w-preserved : goal.loop-w-preserved
-loop-w-preserved c = below_more _ _ c.loop-w.invariant (sym c.if-is-closed-by.ensures)
+loop-w-preserved c = below_more _ _ c.loop-w.invariant (sym c.if-is_closed_by.ensures)
 
 pub returns : goal.returns
 unfolding apex

@@ -12,37 +12,37 @@ returns-then-v-onward c =
     let s = c.args.self.now in
     sym (dart_side s.corners (cut_by s) c.args.u c.args.v (c.if-v-onward.true ∙ c.onward.ensures))
 
-pub returns-in-err-k : goal.returns-in-err-k
-returns-in-err-k c =
+pub returns-in_err-k : goal.returns-in_err-k
+returns-in_err-k c =
     let s = c.args.self.now in
-    let none = sym c.find.ensures ∙ c.in-err-k.was in
-    c.from-residual.ensures
+    let none = sym c.find.ensures ∙ c.in_err-k.was in
+    c.from_residual.ensures
     ∙ sym (dart_other s.corners (cut_by s) c.args.u c.args.v (λ e. c.if-v-onward.false (e ∙ sym c.onward.ensures))
     ∙ ap (λ (o : Option ℕ). and_then o (λ k. Some (diagonal_dart s.corners c.args.u c.args.v k))) none)
 
-pub overflow-add-result : goal.overflow-add-result
-overflow-add-result c =
+pub overflow_add-result : goal.overflow_add-result
+overflow_add-result c =
     let s = c.args.self.now in
     let least = s.least in
     let most = s.most in
-    let few = found_diagonal s _ c.in-ok-k.k (sym c.find.ensures ∙ c.in-ok-k.was) in
-    let small : c.in-ok-k.k < 30 = omega arith in
+    let few = found_diagonal s _ c.in_ok-k.k (sym c.find.ensures ∙ c.in_ok-k.was) in
+    let small : c.in_ok-k.k < 30 = omega arith in
     search rules
 
-pub overflow-mul-result-2 : goal.overflow-mul-result-2
-overflow-mul-result-2 c =
+pub overflow_mul-result-2 : goal.overflow_mul-result-2
+overflow_mul-result-2 c =
     let s = c.args.self.now in
     let most = s.most in
-    let few = found_diagonal s _ c.in-ok-k.k (sym c.find.ensures ∙ c.in-ok-k.was) in
-    let small : c.in-ok-k.k < 30 = omega arith in
+    let few = found_diagonal s _ c.in_ok-k.k (sym c.find.ensures ∙ c.in_ok-k.was) in
+    let small : c.in_ok-k.k < 30 = omega arith in
     search rules
 
-pub overflow-add-result-2 : goal.overflow-add-result-2
-overflow-add-result-2 c =
+pub overflow_add-result-2 : goal.overflow_add-result-2
+overflow_add-result-2 c =
     let s = c.args.self.now in
     let most = s.most in
-    let few = found_diagonal s _ c.in-ok-k.k (sym c.find.ensures ∙ c.in-ok-k.was) in
-    let small : c.in-ok-k.k < 30 = omega arith in
+    let few = found_diagonal s _ c.in_ok-k.k (sym c.find.ensures ∙ c.in_ok-k.was) in
+    let small : c.in_ok-k.k < 30 = omega arith in
     let one : c.if-u-v.result ≤ 1 = elim c.if-u-v.branch [ then-u-v w ↦ omega (arith, w.result-is) | else-u-v w ↦ omega (arith, w.result-is) ] in
     search rules
 
@@ -51,8 +51,8 @@ returns c =
     let s = c.args.self.now in
     let u = c.args.u in
     let v = c.args.v in
-    let k = c.in-ok-k.k in
-    let found = sym c.find.ensures ∙ c.in-ok-k.was in
+    let k = c.in_ok-k.k in
+    let found = sym c.find.ensures ∙ c.in_ok-k.was in
     let odd : c.if-u-v.result ≡ cond (ltb u v) 0 1 =
     elim c.if-u-v.branch [
       | then-u-v w ↦ w.result-is ∙ sym (cond-true {A = ℕ} (ltb u v) 0 1 (lt-ltb u v w.if-u-v.true))

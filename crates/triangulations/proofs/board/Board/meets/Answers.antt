@@ -7,5 +7,5 @@ returns-then-together c = search rules
 pub returns-else-together : goal.returns-else-together
 returns-else-together c = search rules
 
-pub returns-else-is-inside : goal.returns-else-is-inside
-returns-else-is-inside c = search rules
+pub returns-else-is_inside : goal.returns-else-is_inside
+returns-else-is_inside c = search rules

@@ -17,13 +17,13 @@ loop-d-preserved c =
           get_or-set_same xs d _ _ lt ∙ (c.renamed.ensures ∙ ap (renamed (naming c.args.label)) (c.after.ensures ∙ ap (table c.args.self.now) c.named.ensures))),
     )
 
-pub invariant-of-self : goal.invariant-of-self
-invariant-of-self c =
+pub invariant_of-self : goal.invariant_of-self
+invariant_of-self c =
     let x = c.args.self.now in
     let h = c.if-not-names.ensures.0 refl in
     let e = relabelled_board x c.args.label h c.loop-d.next c.loop-d.invariant.0 (λ k l. c.loop-d.invariant.1 k (omega arith)) in
     let k = keeps x (meant_label c.args.label) c.loop-d.next (label_legal c.args.label (on x) h) (c.loop-d.invariant.0 ∙ sym x.full) (e ∙ sym (label_stepped c.args.label (table x))) in
-    (k.few, (k.full, (k.lawful, tt)))
+    record { few = k.few; full = k.full; lawful = k.lawful }
 
 pub returns : goal.returns
 returns c =
