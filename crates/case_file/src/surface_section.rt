@@ -23,6 +23,8 @@ pub enum CaseSurface {
 }
 
 impl Surface for CaseSurface {
+    ghost use Rattle.case_file.specs.declared.surface_section.CaseSurface.TheVariants as surface;
+
     ghost triangulation = { meaning };
 
     ghost sound = { elim [

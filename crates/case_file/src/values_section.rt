@@ -43,7 +43,7 @@ pub fn read_values_head(from: &mut Cursor) -> Result<ValuesHead, Refusal>
 
 /// Reads the value with this index.
 pub fn read_value<K: Kind>(index: usize, from: &mut Cursor) -> Result<K, Refusal>
-    ensures { ReadsValue numbers layout index (position from.old) (position from.new) result }
+    ensures { ReadsValue K.numbers K.layout index (position from.old) (position from.new) result }
 {
     let (_, width) = K::shape();
     match next_value_record(width, from)? {

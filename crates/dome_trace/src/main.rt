@@ -1,4 +1,6 @@
 //! Lists what each step of a walk does to the triangles of a surface. The case comes on standard input.
+#![tactic(auto)]
+
 use std::io::Read;
 use walk_trace::trace::trace;
 

@@ -1,4 +1,6 @@
 //! Fields of exact values, and what follows from their laws. The functions compute nothing: their contracts are the theorems.
+#![tactic(auto)]
+
 ghost use Rattle.exact.specs.Field.{Field, Laws};
 ghost use Rattle.exact.specs.Consequences.{Cancels, Quotients, Undoes, Turns, FiveCycle};
 ghost use Rattle.exact.specs.Models.{integers, ratios};

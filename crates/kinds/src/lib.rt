@@ -1,4 +1,6 @@
 //! The two kinds of numbers: weights and fractions.
+#![tactic(auto)]
+
 pub mod divisor;
 pub mod fraction;
 mod page;

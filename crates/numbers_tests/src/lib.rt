@@ -1,4 +1,6 @@
 //! Tests of the number kinds. The expected values of the tables were worked out by hand or by Python's own fractions.
+#![tactic(auto)]
+
 #[cfg(test)]
 mod flips;
 #[cfg(test)]

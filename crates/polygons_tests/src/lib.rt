@@ -1,4 +1,6 @@
 //! Polygons against triangles worked out elsewhere, and what is refused.
+#![tactic(auto)]
+
 #[cfg(test)]
 mod cases;
 
@@ -76,10 +78,22 @@ mod tests {
         pairs: &[[u8; 2]],
         fault: SurfaceFault,
     ) -> Result<(), Fail> {
+        refuses_as(rt, heap, corners, pairs, fault, "the fault")
+    }
+
+    // The same, with what the case shows.
+    fn refuses_as(
+        rt: &impl Abort,
+        heap: Global,
+        corners: u16,
+        pairs: &[[u8; 2]],
+        fault: SurfaceFault,
+        why: &str,
+    ) -> Result<(), Fail> {
         match make(heap, corners, pairs)? {
             Ok(_) => Err(Fail::new("granted")),
             Err(found) => {
-                assert_eq!(rt; found, fault);
+                assert_eq!(rt; found, fault, "{why}");
                 Ok(())
             },
         }
@@ -216,33 +230,75 @@ mod tests {
         refuses(&rt, heap, 3, &[[0, 2]], CountOutside)?;
         refuses(&rt, heap, 5, &[[0, 2]], CountOutside)?;
         refuses(&rt, heap, 5, &[[0, 2], [0, 3], [0, 2]], CountOutside)?;
-        refuses(&rt, heap, 5, &[[1, 0]], CountOutside).note("the counts are judged first")
+        refuses_as(
+            &rt,
+            heap,
+            5,
+            &[[1, 0]],
+            CountOutside,
+            "the counts are judged first",
+        )
     }
 
     #[test]
     fn pairs_that_are_no_diagonals(rt: HostRuntime) -> Result<(), Fail> {
         let heap = rt.alloc();
-        refuses(&rt, heap, 4, &[[2, 0]], NotDiagonal(0)).note("falling")?;
-        refuses(&rt, heap, 4, &[[2, 2]], NotDiagonal(0)).note("a corner twice")?;
-        refuses(&rt, heap, 4, &[[0, 4]], NotDiagonal(0)).note("no corner")?;
-        refuses(&rt, heap, 4, &[[200, 255]], NotDiagonal(0)).note("no corners")?;
-        refuses(&rt, heap, 4, &[[0, 1]], NotDiagonal(0)).note("a side")?;
-        refuses(&rt, heap, 4, &[[2, 3]], NotDiagonal(0)).note("the side before the last")?;
-        refuses(&rt, heap, 4, &[[0, 3]], NotDiagonal(0)).note("the last side")?;
+        refuses_as(&rt, heap, 4, &[[2, 0]], NotDiagonal(0), "falling")?;
+        refuses_as(&rt, heap, 4, &[[2, 2]], NotDiagonal(0), "a corner twice")?;
+        refuses_as(&rt, heap, 4, &[[0, 4]], NotDiagonal(0), "no corner")?;
+        refuses_as(&rt, heap, 4, &[[200, 255]], NotDiagonal(0), "no corners")?;
+        refuses_as(&rt, heap, 4, &[[0, 1]], NotDiagonal(0), "a side")?;
+        refuses_as(
+            &rt,
+            heap,
+            4,
+            &[[2, 3]],
+            NotDiagonal(0),
+            "the side before the last",
+        )?;
+        refuses_as(&rt, heap, 4, &[[0, 3]], NotDiagonal(0), "the last side")?;
         refuses(&rt, heap, 6, &[[0, 2], [0, 3], [0, 5]], NotDiagonal(2))?;
-        refuses(&rt, heap, 6, &[[0, 2], [3, 2], [0, 2]], NotDiagonal(1)).note("in their order")?;
-        refuses(&rt, heap, 6, &[[1, 4], [4, 1], [0, 2]], NotDiagonal(1)).note("8 before 9")
+        refuses_as(
+            &rt,
+            heap,
+            6,
+            &[[0, 2], [3, 2], [0, 2]],
+            NotDiagonal(1),
+            "in their order",
+        )?;
+        refuses_as(
+            &rt,
+            heap,
+            6,
+            &[[1, 4], [4, 1], [0, 2]],
+            NotDiagonal(1),
+            "8 before 9",
+        )
     }
 
     #[test]
     fn diagonals_that_clash(rt: HostRuntime) -> Result<(), Fail> {
         let heap = rt.alloc();
-        refuses(&rt, heap, 5, &[[0, 2], [0, 2]], Crosses(1)).note("repeats")?;
+        refuses_as(&rt, heap, 5, &[[0, 2], [0, 2]], Crosses(1), "repeats")?;
         refuses(&rt, heap, 5, &[[0, 2], [1, 3]], Crosses(1))?;
         refuses(&rt, heap, 5, &[[1, 3], [0, 2]], Crosses(1))?;
-        refuses(&rt, heap, 6, &[[0, 3], [0, 2], [1, 4]], Crosses(2)).note("the first of them")?;
+        refuses_as(
+            &rt,
+            heap,
+            6,
+            &[[0, 3], [0, 2], [1, 4]],
+            Crosses(2),
+            "the first of them",
+        )?;
         refuses(&rt, heap, 6, &[[0, 2], [2, 4], [2, 4]], Crosses(2))?;
-        refuses(&rt, heap, 6, &[[0, 2], [1, 3], [0, 1]], Crosses(1)).note("in their order")
+        refuses_as(
+            &rt,
+            heap,
+            6,
+            &[[0, 2], [1, 3], [0, 1]],
+            Crosses(1),
+            "in their order",
+        )
     }
 
     #[test]

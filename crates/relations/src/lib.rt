@@ -1,5 +1,7 @@
 //! The list of rewritings, as a relation on walks, and what every listed rewriting keeps. The functions compute nothing:
 //! their contracts are the theorems.
+#![tactic(auto)]
+
 ghost use Rattle.relations.specs.Theorems.{RewritingKeeps, CertificateKeeps, JudgingStands};
 
 use exact::ExactField;

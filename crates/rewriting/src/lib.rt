@@ -1,4 +1,6 @@
 //! Rewriting a walk by a record: judging it, and doing what its rule says.
+#![tactic(auto)]
+
 mod carrying_over;
 mod finding;
 pub mod pentagon;

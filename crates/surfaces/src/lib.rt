@@ -1,4 +1,6 @@
 //! Surfaces cut into triangles, behind one interface.
+#![tactic(auto)]
+
 pub mod faults;
 pub mod loading;
 pub mod surface_trait;

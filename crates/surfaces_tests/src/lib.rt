@@ -1,4 +1,6 @@
 //! Walks on tori against tables worked out elsewhere.
+#![tactic(auto)]
+
 #[cfg(test)]
 mod cases;
 

@@ -1,3 +1,5 @@
 //! The text of refusals, surfaces, steps and triangles in a trace.
+#![tactic(auto)]
+
 pub mod lines;
 pub mod triangles;

@@ -1,4 +1,6 @@
 //! Labelled triangulations: tables of followers, steps on them, and the board on which steps run.
+#![tactic(auto)]
+
 pub mod board;
 pub mod darts;
 pub mod loading;

@@ -1,4 +1,6 @@
 //! Values along worked walks: each answer is what the definitions come to, by evaluation.
+#![tactic(auto)]
+
 ghost use Rattle.std.specs.Prelude.{◌≡◌, [], ◌∷◌, Ok, Err};
 ghost use Rattle.triangulations.specs.Steps.{L};
 ghost use Rattle.valued_walks.specs.Worked.{whole, weighing, fractions_on_torus, weights_on_torus, PentagonFractions, reduced_flip};

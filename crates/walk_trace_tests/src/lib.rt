@@ -1,4 +1,6 @@
 //! Traces of good and of bad input, against texts worked out elsewhere.
+#![tactic(auto)]
+
 #[cfg(test)]
 mod tests {
     use std::alloc::Global;
@@ -11,17 +13,38 @@ mod tests {
 
     // The whole text.
     fn says(rt: &impl Abort, heap: Global, input: &[u8], text: &str) -> Result<(), Fail> {
+        says_as(rt, heap, input, text, "the trace")
+    }
+
+    // The same, with what the case shows.
+    fn says_as(
+        rt: &impl Abort,
+        heap: Global,
+        input: &[u8],
+        text: &str,
+        why: &str,
+    ) -> Result<(), Fail> {
         let traced = trace(heap, input)?;
-        assert_eq!(rt; traced.as_str(), text);
+        assert_eq!(rt; traced.as_str(), text, "{why}");
         Ok(())
     }
 
     // The text after the start of the torus with one puncture.
     fn goes_on(rt: &impl Abort, heap: Global, walk: &[u8], text: &str) -> Result<(), Fail> {
+        goes_on_as(rt, heap, walk, text, "the trace")
+    }
+
+    fn goes_on_as(
+        rt: &impl Abort,
+        heap: Global,
+        walk: &[u8],
+        text: &str,
+        why: &str,
+    ) -> Result<(), Fail> {
         let mut input = [0u8, 1, 0x54].to_vec(heap)?;
         input.extend_from_slice(walk)?;
         let whole = format!(in heap; "{ONE}{text}")?;
-        says(rt, heap, input.as_slice(), whole.as_str())
+        says_as(rt, heap, input.as_slice(), whole.as_str(), why)
     }
 
     #[test]
@@ -33,13 +56,13 @@ mod tests {
             "steps: 0\nend\n  0 2 5\n  1 3 4\n",
         )?;
         let certificate = [0u8, 0, 0, 1, 9, 9, 9, 0, 1, 9, 9, 9, 9, 9, 9, 9, 0, 0, 2, 7];
-        goes_on(
+        goes_on_as(
             &rt,
             rt.alloc(),
             &certificate,
             "steps: 0\nend\n  0 2 5\n  1 3 4\n",
+            "the second walk and the rewritings are not judged, nor what follows the values",
         )
-        .note("the second walk and the rewritings are not judged, nor what follows the values")
     }
 
     #[test]
@@ -75,13 +98,17 @@ mod tests {
     fn a_surface_that_is_refused(rt: HostRuntime) -> Result<(), Fail> {
         let heap = rt.alloc();
         says(&rt, heap, &[], "REFUSED 1 1 0\n")?;
-        says(&rt, heap, &[0], "REFUSED 1 1 1\n").note("a count cut in half")?;
-        says(&rt, heap, &[0, 1], "REFUSED 1 1 2\n").note("no mark")?;
+        says_as(&rt, heap, &[0], "REFUSED 1 1 1\n", "a count cut in half")?;
+        says_as(&rt, heap, &[0, 1], "REFUSED 1 1 2\n", "no mark")?;
         says(&rt, heap, &[0, 0, 0x54], "REFUSED 4 1 0\n")?;
         says(&rt, heap, &[0, 22, 0x54], "REFUSED 4 1 0\n")?;
-        says(&rt, heap, &[1, 1, 0x54], "REFUSED 4 1 0\n").note("257 punctures")?;
+        says_as(&rt, heap, &[1, 1, 0x54], "REFUSED 4 1 0\n", "257 punctures")?;
         says(&rt, heap, &[0, 1, 0x55], "REFUSED 3 1 2\n")?;
-        says(&rt, heap, &[0, 0, 0x55], "REFUSED 3 1 2\n").note(
+        says_as(
+            &rt,
+            heap,
+            &[0, 0, 0x55],
+            "REFUSED 3 1 2\n",
             "the mark is judged before the count",
         )
     }
@@ -91,16 +118,30 @@ mod tests {
         let heap = rt.alloc();
         goes_on(&rt, heap, &[], "REFUSED 1 1 3\n")?;
         goes_on(&rt, heap, &[0], "REFUSED 1 1 4\n")?;
-        goes_on(&rt, heap, &[1, 1], "REFUSED 4 1 3\n").note("257 steps")?;
-        goes_on(&rt, heap, &[0, 1, 9, 9], "steps: 1\nREFUSED 1 1 7\n").note(
+        goes_on_as(&rt, heap, &[1, 1], "REFUSED 4 1 3\n", "257 steps")?;
+        goes_on_as(
+            &rt,
+            heap,
+            &[0, 1, 9, 9],
+            "steps: 1\nREFUSED 1 1 7\n",
             "a record cut short, whatever its first bytes are",
         )?;
         goes_on(&rt, heap, &[0, 1, 4, 0, 0], "steps: 1\nREFUSED 5 3 0\n")?;
         goes_on(&rt, heap, &[0, 1, 255, 3, 1], "steps: 1\nREFUSED 5 3 0\n")?;
-        goes_on(&rt, heap, &[0, 1, 0, 0, 1], "steps: 1\nREFUSED 5 3 0\n").note(
+        goes_on_as(
+            &rt,
+            heap,
+            &[0, 1, 0, 0, 1],
+            "steps: 1\nREFUSED 5 3 0\n",
             "the unused byte is not 0",
         )?;
-        goes_on(&rt, heap, &[0, 1, 2, 3, 1], "steps: 1\nREFUSED 5 3 0\n").note("5 before 6")
+        goes_on_as(
+            &rt,
+            heap,
+            &[0, 1, 2, 3, 1],
+            "steps: 1\nREFUSED 5 3 0\n",
+            "5 before 6",
+        )
     }
 
     #[test]
@@ -110,16 +151,22 @@ mod tests {
         goes_on(&rt, heap, &[0, 1, 1, 255, 0], "steps: 1\nREFUSED 6 3 0\n")?;
         goes_on(&rt, heap, &[0, 1, 2, 3, 0], "steps: 1\nREFUSED 6 3 0\n")?;
         goes_on(&rt, heap, &[0, 1, 3, 0, 3], "steps: 1\nREFUSED 6 3 0\n")?;
-        goes_on(&rt, heap, &[0, 1, 3, 3, 2], "steps: 1\nREFUSED 6 3 0\n").note("6 before 7")?;
+        goes_on_as(
+            &rt,
+            heap,
+            &[0, 1, 3, 3, 2],
+            "steps: 1\nREFUSED 6 3 0\n",
+            "6 before 7",
+        )?;
         goes_on(&rt, heap, &[0, 1, 3, 1, 1], "steps: 1\nREFUSED 7 3 0\n")?;
         goes_on(&rt, heap, &[0, 1, 3, 2, 1], "steps: 1\nREFUSED 7 3 0\n")?;
-        goes_on(
+        goes_on_as(
             &rt,
             heap,
             &[0, 2, 2, 1, 0, 3, 2, 1],
             "steps: 2\n  0: T 1 exchanges 2 and 3\nREFUSED 7 3 1\n",
+            "what comes before it is printed",
         )
-        .note("what comes before it is printed")
     }
 
     // On two punctures L(1) L(0) L(2) L(3) leads to a triangulation in which both darts of edge 5 lie in one triangle.
@@ -186,26 +233,38 @@ mod tests {
             &large,
             "fractions\n  0 2147483647.000\n  1 1.000\n  2 1.000\nsteps: 1\nREFUSED 18 6 0\n",
         )?;
-        goes_on(&rt, heap, &[0, 0, 0, 0, 0, 0, 0, 2, 1], "REFUSED 19 6 2\n").note(
+        goes_on_as(
+            &rt,
+            heap,
+            &[0, 0, 0, 0, 0, 0, 0, 2, 1],
+            "REFUSED 19 6 2\n",
             "neither 0 nor 3 values",
         )?;
-        goes_on(&rt, heap, &[0, 0, 0, 0, 0, 0, 0, 2, 3], "REFUSED 3 1 11\n").note(
+        goes_on_as(
+            &rt,
+            heap,
+            &[0, 0, 0, 0, 0, 0, 0, 2, 3],
+            "REFUSED 3 1 11\n",
             "the mark is judged before the count",
         )?;
-        goes_on(
+        goes_on_as(
             &rt,
             heap,
             &[0, 0, 0, 0, 0, 0, 0, 3, 2, 0, 0, 0, 2, 0, 0, 0, 4],
             "REFUSED 17 6 0\n",
-        )
-        .note("2/4 is no number")?;
+            "2/4 is no number",
+        )?;
         goes_on(
             &rt,
             heap,
             &[0, 0, 0, 0, 0, 0, 0, 3, 2, 0, 0, 0, 2, 0, 0, 0],
             "REFUSED 1 1 19\n",
         )?;
-        goes_on(&rt, heap, &[0, 0, 0], "REFUSED 1 1 6\n").note(
+        goes_on_as(
+            &rt,
+            heap,
+            &[0, 0, 0],
+            "REFUSED 1 1 6\n",
             "what follows the walk is no whole section",
         )
     }
@@ -225,13 +284,13 @@ mod tests {
         )?;
         text.push_str("  0: L 4 makes 0 8 6 and 2 4 9\nend\n  0 8 6\n  2 4 9\n")?;
         says(&rt, heap, &[0, 4, 0x50, 0, 2, 0, 1, 0, 4, 0], text.as_str())?;
-        says(
+        says_as(
             &rt,
             heap,
             &[0, 4, 0x50, 0, 2, 0, 1, 0, 0, 0],
             "polygon, n = 4, E = 5\nstart\n  0 2 9\n  4 6 8\nsteps: 1\nREFUSED 10 3 0\n",
+            "a side",
         )
-        .note("a side")
     }
 
     #[test]
@@ -240,7 +299,11 @@ mod tests {
         says(&rt, heap, &[0, 2, 0x50], "REFUSED 4 1 0\n")?;
         says(&rt, heap, &[0, 34, 0x50], "REFUSED 4 1 0\n")?;
         says(&rt, heap, &[0, 5, 0x50, 0, 2, 2], "REFUSED 1 1 6\n")?;
-        says(&rt, heap, &[0, 5, 0x50, 0, 4, 2], "REFUSED 8 2 0\n").note(
+        says_as(
+            &rt,
+            heap,
+            &[0, 5, 0x50, 0, 4, 2],
+            "REFUSED 8 2 0\n",
             "a diagonal's fault comes before the want of the next",
         )?;
         says(&rt, heap, &[0, 5, 0x50, 0, 2, 2, 0], "REFUSED 8 2 1\n")?;

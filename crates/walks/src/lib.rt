@@ -1,4 +1,6 @@
 //! Walks: a table of steps that is edited in place.
+#![tactic(auto)]
+
 pub mod editing;
 pub mod table;
 pub mod walk;

@@ -10,10 +10,10 @@ returns-in-Ok c =
     let p = position c.args.from.now in
     let n = c.args.corners in
     let made = c.in-Ok.ensures.made in
-    let judged = c.in-default.ensures in
-    let read = c.pairs-in-count.ensures in
-    let k = c.pairs-in-count.result.1 in
-    let xs = c.pairs-in-count.result.0 in
+    let judged = c.in_default.ensures in
+    let read = c.pairs_in-count.ensures in
+    let k = c.pairs_in-count.result.1 in
+    let xs = c.pairs_in-count.result.0 in
     let same : k - 0 ≡ k = omega arith in
     let few : length (take (k - 0) xs) ≤ 30 = omega (arith, length-take (k - 0) xs, read.room) in
     polygon_read c.args.start n p _ _ _ (ap (λ m. take m xs) same ∙ read.pairs) (sym (judged.judged few)) c.if-bytes-wanted.false

@@ -5,8 +5,8 @@ use Rattle.polygon_counting.specs.Polygons.{and_then}
 use Rattle.trace_text.specs.Triangles.{smallest_first, triangle_of, rising}
 use Rattle.trace_text.proofs.triangles.triangles_at.Goals as goal
 
-pub returns-then-edge-ge-MOST-EDGES : goal.returns-then-edge-ge-MOST-EDGES
-returns-then-edge-ge-MOST-EDGES c =
+pub returns-then-edge-ge-MOST_EDGES : goal.returns-then-edge-ge-MOST_EDGES
+returns-then-edge-ge-MOST_EDGES c =
     let x = c.args.board.now in
     let e = c.args.edge in
     let full = x.full in
