@@ -6,8 +6,8 @@ use numbers::kind::Kind;
 /// Rows that stand for the same exact values are equal. So a walk and what any number of listed rewritings make of it give equal
 /// rows, where both are granted from equal rows.
 pub fn rows_agree<K: Kind>() -> u8
-    ensures settled { Settled numbers }
-    ensures rewritten { RowsAgree numbers }
+    ensures settled { Settled K.numbers }
+    ensures rewritten { RowsAgree K.numbers }
 {
     0
 }
@@ -15,7 +15,7 @@ pub fn rows_agree<K: Kind>() -> u8
 /// A carry is granted whenever there is a stored number for each edge, the walk is legal, and each exact result on the way has a
 /// stored number.
 pub fn granting_stands<K: Kind>() -> u8
-    ensures { GrantedWhenever numbers }
+    ensures { GrantedWhenever K.numbers }
 {
     0
 }

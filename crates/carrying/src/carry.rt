@@ -25,7 +25,7 @@ pub fn carry<K: Kind>(
     rows: &mut [K],
     board: &mut Board,
 ) -> Result<(), CarryRefusal>
-    ensures { Carries numbers (moves walk.now) (on table.now) rows.old rows.new result }
+    ensures { Carries K.numbers (moves walk.now) (on table.now) rows.old rows.new result }
 {
     judge_rows(table.edges(), rows)?;
     *board = *table;
@@ -34,7 +34,7 @@ pub fn carry<K: Kind>(
 
 // Whether there is a row for each edge, and each is a stored number.
 fn judge_rows<K: Kind>(edges: u8, rows: &[K]) -> Result<(), CarryRefusal>
-    ensures { Judged numbers edges rows.now result }
+    ensures { Judged K.numbers edges rows.now result }
 {
     let count = rows.len();
     if count != edges as usize {
@@ -49,8 +49,8 @@ fn carry_along<K: Kind>(
     rows: &mut [K],
     board: &mut Board,
 ) -> Result<(), CarryRefusal>
-    requires { Ready numbers (on board.old).edges rows.old }
-    ensures { Carries numbers (map meant steps.now) (on board.old) rows.old rows.new result }
+    requires { Ready K.numbers (on board.old).edges rows.old }
+    ensures { Carries K.numbers (map meant steps.now) (on board.old) rows.old rows.new result }
 {
     for (k, step) in steps.iter().enumerate() {
         carry_step(k, *step, rows, board)?;
@@ -66,7 +66,7 @@ fn carry_step<K: Kind>(
     board: &mut Board,
 ) -> Result<(), CarryRefusal>
     requires { length rows.old ≡ (on board.old).edges }
-    ensures { Steps numbers k (meant step) (on board.old) (on board.new) rows.old rows.new result }
+    ensures { Steps K.numbers k (meant step) (on board.old) (on board.new) rows.old rows.new result }
 {
     match step {
         Step::Flip(flip) => carry_flip(k, flip, rows, board),
@@ -82,7 +82,7 @@ fn carry_flip<K: Kind>(
     board: &mut Board,
 ) -> Result<(), CarryRefusal>
     requires { length rows.old ≡ (on board.old).edges }
-    ensures { Steps numbers k (meant_flip flip) (on board.old) (on board.new) rows.old rows.new result }
+    ensures { Steps K.numbers k (meant_flip flip) (on board.old) (on board.new) rows.old rows.new result }
 {
     if !board.is_flippable(flip.edge) {
         return Err(CarryRefusal::NotLegal { step: k });
@@ -102,7 +102,7 @@ fn carry_label<K: Kind>(
     board: &mut Board,
 ) -> Result<(), CarryRefusal>
     requires { length rows.old ≡ (on board.old).edges }
-    ensures { Steps numbers k (meant_label label) (on board.old) (on board.new) rows.old rows.new result }
+    ensures { Steps K.numbers k (meant_label label) (on board.old) (on board.new) rows.old rows.new result }
 {
     if !board.step(Step::Label(label)) {
         return Err(CarryRefusal::NotLegal { step: k });
@@ -117,7 +117,7 @@ fn carry_label<K: Kind>(
 fn flipped_row<K: Kind>(k: usize, edge: Edge, rows: &[K], board: &Board) -> Result<K, CarryFault>
     requires flippable { T (flippable (on board.now).next edge) }
     requires count { length rows.now ≡ (on board.now).edges }
-    ensures { FlipsRow numbers k (on board.now) edge rows.now result }
+    ensures { FlipsRow K.numbers k (on board.now) edge rows.now result }
 {
     let d = 2 * edge;
     let p = d + 1;

@@ -11,19 +11,19 @@ use Rattle.carrying.proofs.carry.carry_along.Goals as goal
 pub loop-k-init : goal.loop-k-init
 loop-k-init g c = going_none g.K.Kind.numbers (map meant c.args.steps.now) (on c.args.board.now) c.args.rows.now g.met.K.Kind.lawful c.requires
 
-pub carry-step-requires : goal.carry-step-requires
-carry-step-requires g c =
+pub carry_step-requires : goal.carry_step-requires
+carry_step-requires g c =
     going_count g.K.Kind.numbers (map meant c.args.steps.now) (on c.args.board.now) c.args.rows.now c.loop-k.k (on c.loop-k.board) c.loop-k.rows c.loop-k.invariant
 
-pub returns-in-err-carry-step : goal.returns-in-err-carry-step
-returns-in-err-carry-step g c =
+pub returns-in_err-carry_step : goal.returns-in_err-carry_step
+returns-in_err-carry_step g c =
     let steps = c.args.steps.now in
     let k = c.loop-k.k in
     let there = nth_meant steps k _ (slice_get-get_or steps k _ c.loop-k-test.true) in
-    let p = err_from_is_err_and {Q = λ y. y ≡ c.in-err-carry-step.field-0.0} c.from-residual.result c.from-residual.ensures.1 in
+    let p = err_from_is_err_and {Q = λ y. y ≡ c.in_err-carry_step.field-0.0} c.from_residual.result c.from_residual.ensures.1 in
     rw (p.1, p.2)
     (going_refused g.K.Kind.numbers (map meant steps) (on c.args.board.now) c.args.rows.now k (on c.loop-k.board) c.loop-k.rows c.loop-k.invariant _ there
-    (on c.carry-step.new.board) c.carry-step.new.rows c.in-err-carry-step.field-0.0 c.in-err-carry-step.ensures)
+    (on c.carry_step.new.board) c.carry_step.new.rows c.in_err-carry_step.field-0.0 c.in_err-carry_step.ensures)
 
 pub loop-k-preserved : goal.loop-k-preserved
 loop-k-preserved g c =
@@ -31,7 +31,7 @@ loop-k-preserved g c =
     let k = c.loop-k.k in
     let there = nth_meant steps k _ (slice_get-get_or steps k _ c.loop-k-test.true) in
     going_more g.K.Kind.numbers (map meant steps) (on c.args.board.now) c.args.rows.now k (on c.loop-k.board) c.loop-k.rows c.loop-k.invariant _ there
-    (on c.carry-step.new.board) c.carry-step.new.rows c.in-ok-carry-step.ensures
+    (on c.carry_step.new.board) c.carry_step.new.rows c.in_ok-carry_step.ensures
 
 pub returns : goal.returns
 returns g c =

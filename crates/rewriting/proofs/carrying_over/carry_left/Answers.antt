@@ -16,11 +16,11 @@ returns-in-Swap c =
     swap_left w p c.requires a b ha hb c.in-Label.label c.in-Swap.e c.in-Swap.f c.in-Label.is c.in-Swap.is _ _ crossed
     (c.rename.ensures.renamed c.in-Some.passed stands)
 
-pub returns-then-is-passed : goal.returns-then-is-passed
-returns-then-is-passed c =
+pub returns-then-is_passed : goal.returns-then-is_passed
+returns-then-is_passed c =
     let a = c.in-Some.passed in
     let b = c.in-Some-get.step in
     let ha = c.in-Some.ensures in
     let hb = c.in-Some-get.ensures in
-    turn_left c.args.walk.now c.args.place c.requires a b ha hb c.in-Label.label c.in-default-label.field-0 c.in-Label.is c.in-default-label.is c.if-is-passed.ensures _
-    (c.exchange-then-is-passed.ensures.exchanged a b (sym ha) (sym hb))
+    turn_left c.args.walk.now c.args.place c.requires a b ha hb c.in-Label.label c.in_default-label.field-0 c.in-Label.is c.in_default-label.is c.if-is_passed.ensures _
+    (c.exchange-then-is_passed.ensures.exchanged a b (sym ha) (sym hb))

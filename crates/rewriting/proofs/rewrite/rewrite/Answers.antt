@@ -56,8 +56,8 @@ returns c =
     let p = c.args.asked.place in
     let l = length-map ws meant in
     let front = moves_before p _ ws c.steps.ensures in
-    let none = c.in-default.ensures.illegal ∙ ap (λ u. first_illegal u t) front in
-    let there = reached_there (take p w) t _ none (c.in-default.ensures.reached ∙ ap (λ u. leads (before (first_illegal u t) u) t) front) in
+    let none = c.in_default.ensures.illegal ∙ ap (λ u. first_illegal u t) front in
+    let there = reached_there (take p w) t _ none (c.in_default.ensures.reached ∙ ap (λ u. leads (before (first_illegal u t) u) t) front) in
     record {
       judged = answers_as _ _ _
           ((λ i. done p w (change p (there i) c.in-Ok.rewriting (sym (nth_map meant ws p) i) (sym (nth_map meant ws (p + 1)) i)))

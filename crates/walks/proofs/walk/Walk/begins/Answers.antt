@@ -9,4 +9,4 @@ returns c =
     let w = c.args.self.now in
     let k : w.len ≤ length w.steps = omega arith in
     let e = ap (take (length c.args.old.now)) (rest_is w.steps c.args.at w.len c.min-from.result k c.min-from.ensures) in
-    Decides-like _ (λ p. sym (p ∙ e)) (λ p. sym (e ∙ p)) (steps_decide _ _ _ c.starts-with.ensures.value)
+    Decides-like _ (λ p. sym (p ∙ e)) (λ p. sym (e ∙ p)) (steps_decide _ _ _ c.starts_with.ensures.value)

@@ -22,7 +22,7 @@ returns c =
     record {
       granted = search rules;
       renamed = λ s p.
-          ap (λ y. take n (set xs at y)) (c.rename-step.ensures ∙ ap new (nth_taken n xs at s _ p))
+          ap (λ y. take n (set xs at y)) (c.rename_step.ensures ∙ ap new (nth_taken n xs at s _ p))
           ∙ take_of_set n xs at (new s)
           ∙ one_replaced (take n xs) at s (new s) p;
       kept = λ e. let z : ◌≡◌ {A = ℕ} 0 1 = cc in absurd (omega arith);

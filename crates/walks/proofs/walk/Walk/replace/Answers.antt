@@ -9,5 +9,5 @@ returns c =
     let h : c.args.at ≤ length (held w) = search rules in
     record {
       granted = search rules;
-      replaced = put_for (held w) c.args.at c.args.taken c.args.new.now _ _ h c.cut.ensures.rest c.put-in.ensures;
+      replaced = put_for (held w) c.args.at c.args.taken c.args.new.now _ _ h c.cut.ensures.rest c.put_in.ensures;
     }
