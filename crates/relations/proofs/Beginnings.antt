@@ -1,9 +1,8 @@
 -- Answers and tests, legal steps, and steps at the beginning of a walk.
-use Rattle.std.proofs.Common.{◌≡◌, ℕ, Bool, true, false, cond, not, ◌&&◌, T as Yes, ltb, List, [], ◌∷◌, ◌++◌, length, drop, None, Ok, Err, Result, sym, refl, ap, ◌∙◌, arith, ltb→lt, lt→ltb}
-use native.Mathlib.Decide.{ℕ_discrete}
+use Rattle.std.proofs.Common.{◌≡◌, ℕ, Bool, true, false, cond, not, ◌&&◌, T as Yes, ltb, eqb, List, [], ◌∷◌, ◌++◌, length, drop, None, Ok, Err, Result, sym, refl, ap, ◌∙◌, arith, ltb→lt, lt→ltb, eqb→eq, eq-eqb}
 use Rattle.triangulations.specs.Triangulations.{Triangulation}
-use Rattle.triangulations.specs.Steps.{Step, L, R, T, S, step_discrete, apply_step, LegalStep, Legal}
-use Rattle.relations.specs.Judging.{legal, first_illegal, one_more, is_yes, same_step, begins}
+use Rattle.triangulations.specs.Steps.{Step, L, R, T, S, apply_step, LegalStep, Legal}
+use Rattle.relations.specs.Judging.{legal, first_illegal, one_more, same_step, begins}
 
 -- answers that differ
 pub clash : {A E X : Type 0} (a : A) (f : E) → Ok a ≡ Err f → X
@@ -67,18 +66,20 @@ none_illegal (s ∷ w) t h = when_yes (legal s t) _ _ (legal_yes s t h.0) ∙ ap
 
 -- steps at the beginning of a walk
 same_self : (s : Step) → same_step s s ≡ true
-same_self s = go (step_discrete ℕ_discrete s s)
-  where
-    go : (d : Dec (s ≡ s)) → is_yes d ≡ true
-    go (yes p) = refl
-    go (no p) = absurd (p refl)
+same_self (L e) = eq-eqb e e refl
+same_self (R e) = eq-eqb e e refl
+same_self (T e) = eq-eqb e e refl
+same_self (S e f) = λ i. eq-eqb e e refl i && eq-eqb f f refl i
 
 pub same_is : (s s' : Step) → Yes (same_step s s') → s ≡ s'
-same_is s s' = go (step_discrete ℕ_discrete s s')
-  where
-    go : (d : Dec (s ≡ s')) → Yes (is_yes d) → s ≡ s'
-    go (yes p) h = p
-    go (no p) h = absurd h
+same_is (L e) (L f) h = ap L (eqb→eq e f h)
+same_is (R e) (R f) h = ap R (eqb→eq e f h)
+same_is (T e) (T f) h = ap T (eqb→eq e f h)
+same_is (S e f) (S g k) h = let p = and_parts (eqb e g) (eqb f k) h in λ i. S (eqb→eq e g p.0 i) (eqb→eq f k p.1 i)
+same_is (L e) s' h = absurd h
+same_is (R e) s' h = absurd h
+same_is (T e) s' h = absurd h
+same_is (S e f) s' h = absurd h
 
 pub begins_with : (old after : List Step) → begins old (old ++ after) ≡ true
 begins_with [] after = refl

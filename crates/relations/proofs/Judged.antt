@@ -1,10 +1,10 @@
 -- Judging grants exactly what the list allows, and refuses for the reason that holds.
-use Rattle.std.proofs.Common.{◌≡◌, ℕ, zero, suc, ◌+◌, ◌<◌, ◌≤◌, Bool, true, false, cond, not, T as Yes, leb, ◌≢◌, ◌⊎◌, List, [], ◌∷◌, ◌++◌, length, take, drop, Some, None, Ok, Err, Option, Result, sym, refl, ap, ◌∙◌, subst, inl, inr, arith, le→leb, leb→le, length-append, take-append-drop, length-take}
+use Rattle.std.proofs.Common.{◌≡◌, ℕ, zero, suc, ◌+◌, ◌<◌, ◌≤◌, Bool, true, false, cond, not, T as Yes, leb, List, [], ◌∷◌, ◌++◌, length, take, drop, Some, None, Ok, Err, Option, Result, sym, refl, ap, ◌∙◌, subst, inl, inr, arith, le→leb, leb→le, length-append, take-append-drop, length-take}
 use lib.Dec.{not_T, nleb→lt}
 use Rattle.std.proofs.lemmas.List.{drop_at, take_at}
 use Rattle.std.specs.List.{slice_get}
 use Rattle.triangulations.specs.Triangulations.{Triangulation, Lawful}
-use Rattle.triangulations.specs.Steps.{Step, inverse, leads, LegalStep, Legal}
+use Rattle.triangulations.specs.Steps.{Step, inverse, leads, Legal}
 use Rattle.triangulations.specs.Meaning.{meant}
 use Rattle.triangulations.specs.declared.step.Step.{Step as Named}
 use Rattle.triangulations.specs.declared.records.RecordFault.{RecordFault}
@@ -12,10 +12,10 @@ use Rattle.rewriting_records.specs.declared.record.Record.{Record}
 use Rattle.rewriting_records.specs.declared.record.Rewriting.{Rewriting}
 use Rattle.rewriting_records.specs.declared.record.Rewriting.TheVariants.{DropPair, InsertPair, JoinDouble, SplitDouble, Exchange, CarryRight, CarryLeft, ClosePentagon, OpenPentagon}
 use Rattle.rewriting_records.specs.declared.fault.RewritingFault.{RewritingFault}
-use Rattle.rewriting_records.specs.declared.fault.RewritingFault.TheVariants.{BadRecord, PlaceBeyond, NotLegal, NoForm, NoCondition, TooLong}
+use Rattle.rewriting_records.specs.declared.fault.RewritingFault.TheVariants.{PlaceBeyond, NoForm, NoCondition, TooLong}
 use Rattle.rewriting_records.specs.Records.{spelling}
 use Rattle.relations.specs.Pentagons.{Pentagon, pentagon_at}
-use Rattle.relations.specs.Rewritings.{Changes, Rewrites}
+use Rattle.relations.specs.Rewritings.{Rewrites}
 use Rattle.relations.specs.Refusals.{Formed, Shaped, Pentagonal, Placed, Unlisted, Refusal, misspelt, beyond, no_form, no_condition, not_legal_there, no_pentagon, pentagon_form, too_long}
 use Rattle.relations.specs.Judging.{legal, first_illegal, Change, Judged, closed, opened, change, begins, fitting, few, put, from_place, judge_spelt, judge, Judges}
 use Rattle.relations.proofs.Corners.{Found, found, found_it}

@@ -1,9 +1,8 @@
 -- How a record is judged: the walk that it makes, or the first refusal.
-use Rattle.std.specs.Prelude.{◌≡◌, ℕ, suc, ◌+◌, ◌≤◌, Bool, true, false, cond, ◌&&◌, List, [], ◌∷◌, ◌++◌, length, take, drop, Some, None, Ok, Err, Option, Result, nat_le, nat_lt}
-use Rattle.std.proofs.Math.Decide.{ℕ_discrete}
+use Rattle.std.specs.Prelude.{◌≡◌, ℕ, suc, ◌+◌, ◌≤◌, Bool, true, false, cond, ◌&&◌, List, [], ◌∷◌, ◌++◌, length, take, drop, Some, None, Ok, Err, Option, Result, ◌==◌, nat_le, nat_lt}
 use Rattle.std.specs.List.{slice_get}
 use Rattle.triangulations.specs.Triangulations.{Triangulation, Table, flippable, shares}
-use Rattle.triangulations.specs.Steps.{Step, L, R, T, S, step_discrete, inverse, apply_step, leads}
+use Rattle.triangulations.specs.Steps.{Step, L, R, T, S, inverse, apply_step, leads}
 use Rattle.triangulations.specs.Meaning.{meant}
 use Rattle.triangulations.specs.declared.records.RecordFault.{RecordFault}
 use Rattle.rewriting_records.specs.declared.record.Record.{Record}
@@ -111,12 +110,13 @@ module _ (p : ℕ) where
   change t (ClosePentagon e f) first second = closed t.next e f (pentagon_at t.next e f)
   change t (OpenPentagon e f) first second = opened t.next e f (pentagon_at t.next e f)
 
-abbrev pub is_yes : {A : Type 0} → Dec A → Bool
-is_yes (yes a) = true
-is_yes (no n) = false
-
+-- whether two steps are the same
 abbrev pub same_step : Step → Step → Bool
-same_step s s' = is_yes (step_discrete ℕ_discrete s s')
+same_step (L e) (L f) = e == f
+same_step (R e) (R f) = e == f
+same_step (T e) (T f) = e == f
+same_step (S e f) (S g h) = e == g && f == h
+same_step s s' = false
 
 -- whether w begins with the steps `old`
 abbrev pub begins : (old w : List Step) → Bool

@@ -1,5 +1,5 @@
 -- Edits of a walk, on what its steps mean.
-use Rattle.std.proofs.Common.{◌≡◌, ℕ, ◌+◌, ◌-◌, ◌<◌, ◌≤◌, Bool, true, false, cond, not, T as Yes, leb, List, [], ◌∷◌, ◌++◌, map, length, take, drop, Ok, Err, Result, sym, refl, ap, ◌∙◌, subst, arith, le→leb, leb→le, length-append, length-drop, take-append-drop, length-take}
+use Rattle.std.proofs.Common.{◌≡◌, ℕ, ◌+◌, ◌-◌, ◌≤◌, T as Yes, leb, List, ◌++◌, map, length, take, drop, Ok, Err, Result, sym, ap, ◌∙◌, subst, arith, le→leb, leb→le, length-append, length-drop, take-append-drop, length-take}
 use lib.Dec.{not_T}
 use Rattle.std.proofs.lemmas.List.{take-map, drop-map, drop-drop, length-map, map-append, take_at}
 use Rattle.triangulations.specs.Steps.{Step as Move}
@@ -7,7 +7,7 @@ use Rattle.triangulations.specs.Meaning.{meant}
 use Rattle.triangulations.specs.declared.step.Step.{Step}
 use Rattle.rewriting_records.specs.declared.fault.RewritingFault.{RewritingFault}
 use Rattle.rewriting_records.specs.declared.fault.RewritingFault.TheVariants.{NoForm, TooLong}
-use Rattle.relations.specs.Judging.{Change, Judged, begins, fitting, few, put}
+use Rattle.relations.specs.Judging.{begins, few, put}
 use Rattle.relations.proofs.Beginnings.{when_yes, when_no, begins_with, begins_front}
 use Rattle.walks.specs.Walks.{replaced}
 use Rattle.walks.proofs.Moves.{map_replaced, moves_injective}

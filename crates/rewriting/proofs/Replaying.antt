@@ -1,7 +1,7 @@
 -- Steps done one after the other, as far as they are legal.
 use Rattle.std.proofs.Common.{◌≡◌, ℕ, ◌+◌, ◌<◌, ◌≤◌, List, [], ◌∷◌, ◌++◌, map, length, get_or, take, drop, Some, sym, refl, ap, ◌∙◌, subst, arith}
 use lib.Dec.{not_T}
-use Rattle.std.proofs.lemmas.List.{take_more, take_all, drop_more, take-append-drop, get_or-map, length-map, length-take, take_at}
+use Rattle.std.proofs.lemmas.List.{take_more, take_all, drop_more, take-append-drop, get_or-map, length-map, length-take}
 use Rattle.triangulations.specs.Triangulations.{Triangulation}
 use Rattle.triangulations.specs.Steps.{Step, T, apply_step, leads, LegalStep, Legal}
 use Rattle.triangulations.specs.Meaning.{meant}

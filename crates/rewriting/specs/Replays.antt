@@ -1,5 +1,5 @@
 -- How far steps are done that are not all legal.
-use Rattle.std.specs.Prelude.{ℕ, List, length, take, Some, None, Option}
+use Rattle.std.specs.Prelude.{ℕ, List, take, Some, None, Option}
 use Rattle.triangulations.specs.Triangulations.{Triangulation}
 use Rattle.triangulations.specs.Steps.{Step, leads}
 use Rattle.relations.specs.Judging.{first_illegal}

@@ -1,5 +1,5 @@
 -- Records of rewritings: a rule, a way, a place and three more bytes, code, e and f, which are 0 where they are not used.
-use Rattle.std.specs.Prelude.{ℕ, Bool, cond, not, ◌&&◌, List, [], ◌∷◌, Ok, Err, Result, ◌==◌, nat_le, nat_lt}
+use Rattle.std.specs.Prelude.{ℕ, Bool, cond, not, ◌&&◌, [], ◌∷◌, Ok, Err, Result, ◌==◌, nat_le, nat_lt}
 use Rattle.triangulations.specs.declared.step.Step.{Step}
 use Rattle.triangulations.specs.declared.records.RecordFault.{RecordFault}
 use Rattle.triangulations.specs.declared.records.RecordFault.TheVariants.{UnknownCode, EdgeBeyond}

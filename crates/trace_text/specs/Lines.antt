@@ -1,5 +1,5 @@
 -- The text of refusals, steps and triangles.
-use Rattle.std.specs.Prelude.{ℕ, ◌+◌, ◌*◌, List, [], ◌++◌, codes, decimal}
+use Rattle.std.specs.Prelude.{ℕ, ◌+◌, ◌*◌, List, ◌++◌, codes, decimal}
 use Rattle.triangulations.specs.Steps.{Step, L, R, T, S}
 use Rattle.triangulations.specs.declared.step.Label.{Label}
 use Rattle.triangulations.specs.declared.step.Label.TheVariants.{Turn, Swap}

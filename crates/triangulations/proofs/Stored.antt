@@ -1,5 +1,5 @@
 -- Tables that are stored as lists: what a write does, and the law as a test.
-use Rattle.std.proofs.Common.{◌≡◌, ℕ, zero, suc, ◌+◌, ◌*◌, ◌<◌, ◌≤◌, Bool, true, false, cond, not, ◌&&◌, ◌||◌, T as Yes, eqb, List, [], length, set, replicate, Some, None, Option, sym, refl, ap, ◌∙◌, subst, add-one, arith, eqb→eq, ltb→lt, lt→ltb, length-set, get_or-set_other, get_or-set_same, eq-eqb, ne_eqb}
+use Rattle.std.proofs.Common.{◌≡◌, ℕ, zero, suc, ◌+◌, ◌*◌, ◌<◌, ◌≤◌, Bool, true, false, cond, not, ◌&&◌, ◌||◌, T as Yes, eqb, List, length, set, replicate, Some, None, Option, sym, refl, ap, ◌∙◌, subst, add-one, arith, eqb→eq, ltb→lt, lt→ltb, length-set, get_or-set_other, get_or-set_same, eq-eqb, ne_eqb}
 use native.Mathlib.Decide.{ℕ_discrete, dec_lt}
 use mathlib.Core.Path.{fun_ext}
 use Rattle.triangulations.specs.Triangulations.{Table, Triangulation, Lawful, after, is_some, inside}

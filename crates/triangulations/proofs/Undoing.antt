@@ -1,5 +1,5 @@
 -- Steps that undo one another, and flips done twice.
-use Rattle.std.proofs.Common.{◌≡◌, ℕ, ◌*◌, ◌<◌, T as Yes, [], refl, arith}
+use Rattle.std.proofs.Common.{◌≡◌, ℕ, ◌*◌, ◌<◌, T as Yes, refl, arith}
 use Rattle.triangulations.specs.Triangulations.{Triangulation, Table, Lawful, flippable}
 use Rattle.triangulations.specs.Steps.{Step, L, R, T, S, Direction, left, right, opposite, flip_step, inverse}
 use Rattle.triangulations.specs.declared.step.Label.{Label}

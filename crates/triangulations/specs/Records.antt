@@ -2,7 +2,6 @@
 use Rattle.std.specs.Prelude.{ℕ, Bool, cond, not, ◌&&◌, ◌||◌, List, [], ◌∷◌, Ok, Err, Result, ◌==◌, nat_le, nat_lt, slice_index}
 use Rattle.triangulations.specs.declared.step.Side.{Side}
 use Rattle.triangulations.specs.declared.step.Side.TheVariants.{Left, Right}
-use Rattle.triangulations.specs.declared.step.Flip.{Flip}
 use Rattle.triangulations.specs.declared.step.Label.{Label}
 use Rattle.triangulations.specs.declared.step.Label.TheVariants.{Turn, Swap}
 use Rattle.triangulations.specs.declared.step.Step.{Step}

@@ -6,7 +6,6 @@ use Rattle.triangulations.specs.Triangulations.{Table, Triangulation, partner, e
 pub data Step : Type 0 where
   L R T : ℕ → Step
   S : ℕ → ℕ → Step
-  deriving Discrete as step_discrete
 
 pub data Direction : Type 0 where
   left right : Direction

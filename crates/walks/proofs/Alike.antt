@@ -1,8 +1,8 @@
 -- What `==` tells of steps and of slices of them.
 use Rattle.std.proofs.Common.{◌≡◌, Bool, List, length, take, Decides, refl, rules}
-use Rattle.std.specs.Cmp.Lexicographic.{pointwise, pointwise_decides}
+use Rattle.std.specs.Cmp.Lexicographic.{pointwise_decides}
 use Rattle.std.specs.List.{starts_with}
-use Rattle.std.proofs.lemmas.Bool.Decides.{Decides-eqb, Decides-at}
+use Rattle.std.proofs.lemmas.Bool.Decides.{Decides-at}
 use Rattle.triangulations.specs.declared.step.Step.{Step}
 use Rattle.triangulations.specs.declared.step.Step.TheVariants as step
 use Rattle.triangulations.specs.declared.step.Label.TheVariants.{Turn, Swap}

@@ -1,9 +1,9 @@
-use Rattle.std.proofs.Common.{List, [], ◌∷◌, Ok, sym, refl, ap, ◌∙◌}
+use Rattle.std.proofs.Common.{[], ◌∷◌, Ok, sym, refl, ap, ◌∙◌}
 use Rattle.triangulations.specs.Meaning.{meant}
 use Rattle.triangulations.specs.Boards.{on}
 use Rattle.relations.specs.Judging.{legal}
 use Rattle.relations.proofs.Beginnings.{when_yes, legal_yes}
-use Rattle.walks.specs.Walks.{held, moves}
+use Rattle.walks.specs.Walks.{moves}
 use Rattle.rewriting.specs.Rewritten.{done}
 use Rattle.rewriting.proofs.Edits.{answers_as}
 use Rattle.rewriting.proofs.rules.insert_pair.Goals as goal

@@ -1,7 +1,7 @@
-use Rattle.std.proofs.Common.{◌≡◌, true, false, cond, map, length, Ok, sym, refl, ap, ◌∙◌}
+use Rattle.std.proofs.Common.{false, map, Ok, sym, refl, ap, ◌∙◌}
 use Rattle.std.proofs.lemmas.Bool.Decides.{not_from_Decides}
 use Rattle.triangulations.specs.Meaning.{meant}
-use Rattle.walks.specs.Walks.{held, replaced}
+use Rattle.walks.specs.Walks.{held}
 use Rattle.rewriting.proofs.Edits.{unfit, edited, overlong}
 use Rattle.rewriting.proofs.rules.substitute.Goals as goal
 

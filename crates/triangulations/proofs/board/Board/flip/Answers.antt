@@ -1,5 +1,4 @@
 use Rattle.std.proofs.Common.{refl, arith}
-use Rattle.triangulations.specs.Steps.{with_d}
 use Rattle.triangulations.specs.Meaning.{direction}
 use Rattle.triangulations.proofs.Moved.{flippable_small, one_within, other_within, flip_kept}
 use Rattle.triangulations.proofs.board.Board.flip.Goals as goal

@@ -1,7 +1,6 @@
 use Rattle.std.proofs.Common.{cond, Decides, sym, ap, ◌∙◌, subst}
 use Rattle.triangulations.specs.Steps.{LegalStep, apply_step}
 use Rattle.triangulations.specs.declared.step.Step.{Step}
-use Rattle.triangulations.specs.declared.step.Step.TheVariants as step
 use Rattle.triangulations.specs.Boards.{on}
 use Rattle.triangulations.specs.Meaning.{direction, meant}
 use Rattle.triangulations.proofs.Moved.{law, flip_decides, label_decides}
