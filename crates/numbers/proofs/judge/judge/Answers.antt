@@ -1,5 +1,5 @@
 use Rattle.std.proofs.Common.{List, sym, subst, take_all}
-use Rattle.std.specs.List.{AllByRecursion as All}
+use Rattle.std.specs.List.{AllByRecursion}
 use Rattle.std.proofs.lemmas.List.{get_or_read}
 use Rattle.std.proofs.ByRecursion.{All-more}
 use Rattle.std.proofs.lemmas.Bool.Decides.{not_from_Decides}
@@ -25,5 +25,5 @@ loop-index-preserved g c =
 pub returns : goal.returns
 returns g c =
     let stored = g.K.Kind.numbers.stored in
-    let P : List g.row.K.Denot → Type 0 = λ xs. All stored xs in
+    let P : List g.row.K.Denot → Type 0 = λ xs. AllByRecursion stored xs in
     subst P (take_all _ _ c.loop-index-test.false) c.loop-index.invariant
