@@ -1,5 +1,5 @@
 #!/usr/bin/env python3
-"""Runs target/bin/dome_trace and the independent tracer on random cases, good and damaged, and compares what they print.
+"""Runs crates/dome_trace/out/dome_trace and the independent tracer on random cases, good and damaged, and compares what they print.
 
 Usage: tools/compare.py [CASES [SEED]], after ./run_trace has built the program.
 """
@@ -12,7 +12,7 @@ import sys
 sys.dont_write_bytecode = True
 from trace import trace
 
-PROGRAM = pathlib.Path(__file__).resolve().parent.parent / "target" / "bin" / "dome_trace"
+PROGRAM = pathlib.Path(__file__).resolve().parent.parent / "crates" / "dome_trace" / "out" / "dome_trace"
 
 
 def record(rng, edges):

@@ -26,7 +26,7 @@ pub trait Kind: Copy {
 
     ghost layout: { Layout Self };
 
-    /// The mark and the width, which a clause cannot name.
+    /// The mark and the width, as the layout has them.
     fn shape() -> (u8, usize)
         ensures { result ≡ (layout.mark, layout.width) };
 
