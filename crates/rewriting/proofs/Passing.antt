@@ -14,7 +14,7 @@ use Rattle.relations.proofs.Beginnings.{when_yes}
 use Rattle.walks.specs.declared.walk.Walk.{Walk}
 use Rattle.walks.specs.Walks.{held, replaced, renamed_named}
 use Rattle.walks.proofs.Moves.{meant_renamed}
-use Rattle.walks.proofs.Places.{nth_within}
+use Rattle.std.proofs.lemmas.Option.{slice_get_within}
 use Rattle.rewriting.specs.Rewritten.{move_at, done}
 use Rattle.rewriting.proofs.Edits.{edited}
 
@@ -71,7 +71,7 @@ module _ (w : Walk) (p : ℕ) (inside : p ≤ length (held w)) (a b : Step) (ha 
   crossed : (x y : Step) → done p (map meant (held w)) (Ok (record { old = meant a ∷ meant b ∷ []; new = meant x ∷ meant y ∷ [] })) ≡ Ok (map meant (replaced p 2 (x ∷ y ∷ []) (held w)))
   crossed x y =
       let few = held_few w in
-      let l = nth_within (held w) (p + 1) b (sym hb) in
+      let l = slice_get_within (held w) (p + 1) b (sym hb) in
       edited p (held w) (a ∷ b ∷ []) (x ∷ y ∷ []) inside (two_there (held w) p a b (sym ha) (sym hb)) (omega arith)
 
   settled : (j : Judged) (x y : Step) (v : List Step) → j ≡ Ok (record { old = meant a ∷ meant b ∷ []; new = meant x ∷ meant y ∷ [] })

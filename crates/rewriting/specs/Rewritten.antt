@@ -17,9 +17,9 @@ use Rattle.walks.specs.declared.walk.Walk.{Walk}
 use Rattle.walks.specs.Walks.{held}
 
 -- Granted, the walk then means what was judged; refused, it has that fault and holds what it held.
-abbrev pub Answers : {U : Type 0} → (held : List Step) → Result U RewritingFault → (then-held : List Step) → Result (List Move) RewritingFault → Type 0
-Answers held (Ok _) then-held judged = judged ≡ Ok (map meant then-held)
-Answers held (Err f) then-held judged = (judged ≡ Err f) × (then-held ≡ held)
+abbrev pub Answers : {U : Type 0} → (held : List Step) → Result U RewritingFault → (after : List Step) → Result (List Move) RewritingFault → Type 0
+Answers held (Ok _) after judged = judged ≡ Ok (map meant after)
+Answers held (Err f) after judged = (judged ≡ Err f) × (after ≡ held)
 
 -- what the step at a place of a walk means, if there is one
 abbrev pub move_at : Walk → ℕ → Option Move

@@ -1,10 +1,10 @@
 -- What edits of a walk are of what its steps mean.
-use Rattle.std.proofs.Common.{◌≡◌, ℕ, zero, suc, ◌+◌, List, [], ◌∷◌, ◌++◌, map, take, drop, Some, sym, refl, ap, ◌∙◌, arith, rules}
+use Rattle.std.proofs.Common.{◌≡◌, ℕ, ◌+◌, List, [], ◌∷◌, ◌++◌, map, take, drop, Some, sym, refl, ap, ◌∙◌, arith, rules}
 use Rattle.std.specs.Option.{option_map}
 use Rattle.std.specs.List.{slice_get}
+use Rattle.std.proofs.lemmas.Option.{slice_get-map}
 use Rattle.std.proofs.lemmas.List.{map-append, take-map, drop-map}
 use Rattle.triangulations.specs.Steps.{flip_step, exchanged}
-use Rattle.triangulations.specs.Steps.{Step as Move}
 use Rattle.triangulations.specs.Meaning.{meant, meant_label, direction}
 use Rattle.triangulations.specs.declared.step.Label.{Label}
 use Rattle.triangulations.specs.declared.step.Side.{Side}
@@ -16,11 +16,6 @@ use Rattle.relations.specs.Rewritings.{renamed_step}
 use Rattle.walks.specs.Walks.{replaced, renamed_named}
 
 module _ {X Y : Type 0} (f : X → Y) where
-  pub nth_map : (xs : List X) (i : ℕ) → slice_get (map f xs) i ≡ option_map f (slice_get xs i)
-  nth_map [] i = refl
-  nth_map (x ∷ xs) zero = refl
-  nth_map (x ∷ xs) (suc i) = nth_map xs i
-
   pub map_replaced : (at taken : ℕ) (new xs : List X) → map f (replaced at taken new xs) ≡ replaced at taken (map f new) (map f xs)
   map_replaced at taken new xs =
       map-append f (take at xs) (new ++ drop (at + taken) xs)
@@ -28,15 +23,9 @@ module _ {X Y : Type 0} (f : X → Y) where
       ∙ ap (λ r. r ++ (map f new ++ map f (drop (at + taken) xs))) (sym (take-map f at xs))
       ∙ ap (λ r. take at (map f xs) ++ (map f new ++ r)) (sym (drop-map f (at + taken) xs))
 
--- the step behind what stands in the moves
-pub nth_step : (xs : List Step) (i : ℕ) (m : Move) → slice_get (map meant xs) i ≡ Some m → (s : Step) × (slice_get xs i ≡ Some s) × (meant s ≡ m)
-nth_step [] i m e = let z : ◌≡◌ {A = ℕ} 0 1 = cc in absurd (omega arith)
-nth_step (x ∷ xs) zero m e = (x, refl, cc)
-nth_step (x ∷ xs) (suc i) m e = nth_step xs i m e
-
--- and what stands in the moves for a step
+-- what stands in the moves for a step
 pub nth_meant : (xs : List Step) (i : ℕ) (s : Step) → slice_get xs i ≡ Some s → slice_get (map meant xs) i ≡ Some (meant s)
-nth_meant xs i s e = nth_map meant xs i ∙ ap (option_map meant) e
+nth_meant xs i s e = slice_get-map meant xs i ∙ ap (option_map meant) e
 
 same_flips : (s t : Side) (e f : ℕ) → flip_step (direction s) e ≡ flip_step (direction t) f → (s ≡ t) × (e ≡ f)
 same_flips Left Left e f p = (refl, cc)

@@ -7,7 +7,7 @@ use Rattle.triangulations.proofs.Moved.{law}
 use Rattle.relations.specs.Judging.{first_illegal, change}
 use Rattle.relations.proofs.Judged.{judges}
 use Rattle.walks.specs.Walks.{held, moves}
-use Rattle.walks.proofs.Moves.{nth_map}
+use Rattle.std.proofs.lemmas.Option.{slice_get-map}
 use Rattle.rewriting.specs.Replays.{before}
 use Rattle.rewriting.specs.Rewritten.{done}
 use Rattle.rewriting.proofs.Edits.{answers_as}
@@ -60,7 +60,7 @@ returns c =
     let there = reached_there (take p w) t _ none (c.in_default.ensures.reached ∙ ap (λ u. leads (before (first_illegal u t) u) t) front) in
     record {
       judged = answers_as _ _ _
-          ((λ i. done p w (change p (there i) c.in-Ok.rewriting (sym (nth_map meant ws p) i) (sym (nth_map meant ws (p + 1)) i)))
+          ((λ i. done p w (change p (there i) c.in-Ok.rewriting (sym (slice_get-map meant ws p) i) (sym (slice_get-map meant ws (p + 1)) i)))
           ∙ sym (reached t w c.args.asked c.edges.result c.edges.ensures c.in-Ok.rewriting c.in-Ok.ensures (omega arith) none))
           c.apply.ensures;
       listed = judges t (law c.args.table.now) w c.args.asked;

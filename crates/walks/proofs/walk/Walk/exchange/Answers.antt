@@ -1,7 +1,8 @@
 use Rattle.std.proofs.Common.{◌≡◌, ℕ, ◌+◌, ◌<◌, length, get_or, take, set, refl, ap, ◌∙◌, arith, rules}
 use Rattle.std.proofs.lemmas.List.{places}
 use Rattle.walks.specs.Walks.{held}
-use Rattle.walks.proofs.Places.{nth_within, nth_taken, take_of_set, two_crossed}
+use Rattle.std.proofs.lemmas.Option.{slice_get_within}
+use Rattle.walks.proofs.Places.{nth_taken, take_of_set, two_crossed}
 use Rattle.walks.proofs.walk.Walk.exchange.Goals as goal
 
 pub returns-then-self-lt2 : goal.returns-then-self-lt2
@@ -9,7 +10,7 @@ returns-then-self-lt2 c =
     let short : length (held c.args.self.now) < c.args.at + 2 = search (rules, places) in
     record {
       granted = search rules;
-      exchanged = λ a b p q. absurd (omega (arith, nth_within (held c.args.self.now) (c.args.at + 1) b q));
+      exchanged = λ a b p q. absurd (omega (arith, slice_get_within (held c.args.self.now) (c.args.at + 1) b q));
       kept = λ _. refl;
     }
 

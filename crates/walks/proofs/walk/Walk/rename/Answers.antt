@@ -1,7 +1,8 @@
 use Rattle.std.proofs.Common.{◌≡◌, ℕ, ◌≤◌, length, take, set, refl, ap, ◌∙◌, arith, rules}
 use Rattle.std.proofs.lemmas.List.{places}
 use Rattle.walks.specs.Walks.{held, renamed_named}
-use Rattle.walks.proofs.Places.{nth_within, nth_taken, take_of_set, one_replaced}
+use Rattle.std.proofs.lemmas.Option.{slice_get_within}
+use Rattle.walks.proofs.Places.{nth_taken, take_of_set, one_replaced}
 use Rattle.walks.proofs.walk.Walk.rename.Goals as goal
 
 pub returns-then-at-self : goal.returns-then-at-self
@@ -9,7 +10,7 @@ returns-then-at-self c =
     let short : length (held c.args.self.now) ≤ c.args.at = search (rules, places) in
     record {
       granted = search rules;
-      renamed = λ s p. absurd (omega (arith, nth_within (held c.args.self.now) c.args.at s p));
+      renamed = λ s p. absurd (omega (arith, slice_get_within (held c.args.self.now) c.args.at s p));
       kept = λ _. refl;
     }
 
