@@ -6,6 +6,7 @@ use Rattle.triangulations.proofs.Triangles.{Disjoint}
 use Rattle.triangulations.proofs.Pairs.{and_l, and_r}
 use Rattle.triangulations.proofs.Flips.{not_yes}
 use Rattle.relations.specs.Pentagons.{corner, first_of, pentagon_at, Pentagon}
+use Rattle.relations.proofs.Beginnings.{and_both}
 use Rattle.relations.proofs.PentagonPlaces.{Among, together_cases, re, rf, differ, next_x, next_y, next_next_y}
 
 no_both : (x y z p c g u : ℕ) → Disjoint (x ∷ y ∷ z ∷ []) (p ∷ c ∷ g ∷ []) → Among u x y z → Among u p c g → ⊥
@@ -72,13 +73,9 @@ from_corner t e f he hf x y p q h = record {
   only = and_r (together t x y) _ h;
 }
 
-and_yes : (a b : Bool) → Yes a → Yes b → Yes (a && b)
-and_yes true b h k = k
-and_yes false b h k = absurd h
-
 to_corner : (t : Table) (e f x y : ℕ) → Pentagon t e f x y → Yes (corner t x y)
 unfolding corner
-to_corner t e f x y at = and_yes (together t x y) _ at.shared at.only
+to_corner t e f x y at = and_both (together t x y) _ at.shared at.only
 
 abbrev pub Found : Table → ℕ → ℕ → Option (ℕ × ℕ) → Type 0
 Found t e f None = (x y : ℕ) → Pentagon t e f x y → ⊥

@@ -1,5 +1,5 @@
 -- A label step and its neighbour change places.
-use Rattle.std.proofs.Common.{◌≡◌, ℕ, zero, suc, ◌+◌, ◌≤◌, true, T as Yes, List, [], ◌∷◌, ◌++◌, map, length, take, drop, Some, None, Ok, Option, sym, refl, ap, ◌∙◌, subst, arith}
+use Rattle.std.proofs.Common.{◌≡◌, ℕ, zero, suc, ◌+◌, ◌≤◌, true, T as Yes, List, [], ◌∷◌, ◌++◌, map, length, take, drop, Some, Ok, sym, refl, ap, ◌∙◌, subst, arith}
 use Rattle.std.specs.Option.{option_map}
 use Rattle.std.specs.List.{slice_get}
 use Rattle.std.proofs.lemmas.List.{length-take}
@@ -14,12 +14,10 @@ use Rattle.relations.proofs.Beginnings.{when_yes}
 use Rattle.walks.specs.declared.walk.Walk.{Walk}
 use Rattle.walks.specs.Walks.{held, replaced, renamed_named}
 use Rattle.walks.proofs.Moves.{meant_renamed}
+use Rattle.walks.proofs.Places.{none_some}
 use Rattle.std.proofs.lemmas.Option.{slice_get_within}
 use Rattle.rewriting.specs.Rewritten.{move_at, done}
 use Rattle.rewriting.proofs.Edits.{edited}
-
-none_some : {X : Type 0} {x : X} → ◌≡◌ {A = Option X} None (Some x) → ⊥
-none_some e = let z : ◌≡◌ {A = ℕ} 0 1 = cc in omega arith
 
 after_first : (n : ℕ) → suc n + 1 ≡ suc (n + 1)
 after_first n = omega arith
