@@ -1,0 +1,7 @@
+//! Rewritings of walks and carried values, against results worked out by hand from the rules.
+#![tactic(auto)]
+
+#[cfg(test)]
+mod carrying;
+#[cfg(test)]
+mod rewriting;
