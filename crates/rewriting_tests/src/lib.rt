@@ -2,6 +2,6 @@
 #![tactic(auto)]
 
 #[cfg(test)]
-mod carrying;
+mod records;
 #[cfg(test)]
-mod rewriting;
+mod values;
