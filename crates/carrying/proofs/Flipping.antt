@@ -7,6 +7,7 @@ use Rattle.numbers.specs.Numbers.{Numbers, Lawful, Stands, Held}
 use Rattle.numbers.specs.Faults.{at_step}
 use Rattle.numbers.specs.Ptolemy.{answered, AllStored, Blocked, Flips, Reached, flip_result}
 use Rattle.numbers.specs.Ptolemy as row
+use Rattle.numbers.specs.declared.ptolemy.Sides.{Sides}
 use Rattle.numbers.specs.declared.fault.Operation.{Operation}
 use Rattle.numbers.specs.declared.fault.Operation.TheVariants.{FirstProduct, SecondProduct, Sum, Quotient}
 use Rattle.numbers.specs.declared.fault.FlipFault.{FlipFault}
@@ -19,15 +20,15 @@ use Rattle.carrying.specs.Results.{result, ResultHeld, FlipBlocked}
 use Rattle.carrying.specs.Stepping.{FlipsRow, Stepped, StepRefused}
 use Rattle.carrying.proofs.Rowwise.{standing_set}
 
-module _ {N : Type 0} {K : Numbers N} (lawful : Lawful K) (a b c g x : N) where
+module _ {N : Type 0} {K : Numbers N} (lawful : Lawful K) (sides : Sides N) where
   -- the computed answer says of the exact results what an answer has to say
-  flips_result : Flips K a b c g x (flip_result K a b c g x)
+  flips_result : Flips K sides (flip_result K sides)
   flips_result = go _ _ _ _ refl refl refl refl
     where
       go : (i j k l : Option N)
-          → K.result (row.first_product K a b c g x) ≡ i → K.result (row.second_product K a b c g x) ≡ j
-          → K.result (row.both K a b c g x) ≡ k → K.result (row.new K a b c g x) ≡ l
-          → Flips K a b c g x (row.after FirstProduct i (row.after SecondProduct j (row.after Sum k (answered Quotient l))))
+          → K.result (row.first_product K sides) ≡ i → K.result (row.second_product K sides) ≡ j
+          → K.result (row.both K sides) ≡ k → K.result (row.new K sides) ≡ l
+          → Flips K sides (row.after FirstProduct i (row.after SecondProduct j (row.after Sum k (answered Quotient l))))
       go None j k l p q r s = lawful.missing _ p
       go (Some m) None k l p q r s = ((m, lawful.found _ m p), lawful.missing _ q)
       go (Some m) (Some n) None l p q r s = ((m, lawful.found _ m p), (n, lawful.found _ n q), lawful.missing _ r)
@@ -43,14 +44,14 @@ module _ {N : Type 0} {K : Numbers N} (lawful : Lawful K) (a b c g x : N) where
   module _ (t : Triangulation) (e : ℕ) where
     -- the five rows stand for the values of the edges around e and of e
     pub record Around (v : Values K.exact) : Type 0 where
-      pub a_stands : Stands K (v (edge_of (after t.next (2 * e)))) a
-      pub b_stands : Stands K (v (edge_of (after t.next (after t.next (2 * e))))) b
-      pub c_stands : Stands K (v (edge_of (after t.next (2 * e + 1)))) c
-      pub g_stands : Stands K (v (edge_of (after t.next (after t.next (2 * e + 1))))) g
-      pub e_stands : Stands K (v e) x
+      pub a_stands : Stands K (v (edge_of (after t.next (2 * e)))) sides.a
+      pub b_stands : Stands K (v (edge_of (after t.next (after t.next (2 * e))))) sides.b
+      pub c_stands : Stands K (v (edge_of (after t.next (2 * e + 1)))) sides.c
+      pub g_stands : Stands K (v (edge_of (after t.next (after t.next (2 * e + 1))))) sides.g
+      pub e_stands : Stands K (v e) sides.e
 
     module _ (v : Values K.exact) (h : Around v) where
-      around_stored : AllStored K a b c g x
+      around_stored : AllStored K sides
       around_stored = record {
         a_stored = h.a_stands.stored;
         b_stored = h.b_stands.stored;
@@ -61,10 +62,10 @@ module _ {N : Type 0} {K : Numbers N} (lawful : Lawful K) (a b c g x : N) where
 
       -- the exact results of the rows
       made : Operation → K.exact.Exact
-      made FirstProduct = row.first_product K a b c g x
-      made SecondProduct = row.second_product K a b c g x
-      made Sum = row.both K a b c g x
-      made Quotient = row.new K a b c g x
+      made FirstProduct = row.first_product K sides
+      made SecondProduct = row.second_product K sides
+      made Sum = row.both K sides
+      made Quotient = row.new K sides
 
       made_same : (o : Operation) → K.exact.same (made o) (result K.exact t.next e v o)
       unfolding made flip_value
@@ -76,7 +77,7 @@ module _ {N : Type 0} {K : Numbers N} (lawful : Lawful K) (a b c g x : N) where
           (lawful.laws.product_same _ _ _ _ h.b_stands.same h.g_stands.same)
       made_same Quotient = flipped_same lawful.laws h.a_stands.same h.c_stands.same h.b_stands.same h.g_stands.same h.e_stands.same
 
-      new_same : K.exact.same (row.new K a b c g x) (flip_value K.exact t.next e v)
+      new_same : K.exact.same (row.new K sides) (flip_value K.exact t.next e v)
       unfolding made
       new_same = made_same Quotient
 
@@ -86,14 +87,14 @@ module _ {N : Type 0} {K : Numbers N} (lawful : Lawful K) (a b c g x : N) where
       lacks : (o : Operation) → (Held K (made o) → ⊥) → ResultHeld K t.next e v o → ⊥
       lacks o none s = none (held_same lawful (lawful.laws.same_sym _ _ (made_same o)) s)
 
-      held : (n : N) → Reached K a b c g x n → (o : Operation) → ResultHeld K t.next e v o
+      held : (n : N) → Reached K sides n → (o : Operation) → ResultHeld K t.next e v o
       unfolding made
       held n r FirstProduct = has FirstProduct r.first_held
       held n r SecondProduct = has SecondProduct r.second_held
       held n r Sum = has Sum r.both_held
       held n r Quotient = has Quotient (n, r.stands)
 
-      blocked : (o : Operation) → Blocked K a b c g x o → FlipBlocked K t.next e v o
+      blocked : (o : Operation) → Blocked K sides o → FlipBlocked K t.next e v o
       unfolding made
       blocked FirstProduct s = lacks FirstProduct s
       blocked SecondProduct s = (has FirstProduct s.0, lacks SecondProduct s.1)
@@ -101,30 +102,30 @@ module _ {N : Type 0} {K : Numbers N} (lawful : Lawful K) (a b c g x : N) where
       blocked Quotient s = (has FirstProduct s.0, has SecondProduct s.1, has Sum s.2, lacks Quotient s.3)
 
   -- what the answer at step k says
-  answered_ok : (k : ℕ) (y : Result N FlipFault) (n : N) → Flips K a b c g x y → Ok n ≡ at_step k y → Reached K a b c g x n
-  answered_ok k (Ok m) n h e = let P : N → Type 0 = λ z. Reached K a b c g x z in let p : m ≡ n = cc in subst P p h
+  answered_ok : (k : ℕ) (y : Result N FlipFault) (n : N) → Flips K sides y → Ok n ≡ at_step k y → Reached K sides n
+  answered_ok k (Ok m) n h e = let P : N → Type 0 = λ z. Reached K sides z in let p : m ≡ n = cc in subst P p h
   answered_ok k (Err f) n h e = let z : ◌≡◌ {A = ℕ} 0 1 = cc in absurd (omega arith)
 
-  answered_err : (k : ℕ) (y : Result N FlipFault) (f : CarryFault) → Flips K a b c g x y → Err f ≡ at_step k y
-      → (f.step ≡ k) × Blocked K a b c g x f.fault.operation
+  answered_err : (k : ℕ) (y : Result N FlipFault) (f : CarryFault) → Flips K sides y → Err f ≡ at_step k y
+      → (f.step ≡ k) × Blocked K sides f.fault.operation
   answered_err k (Ok m) f h e = let z : ◌≡◌ {A = ℕ} 0 1 = cc in absurd (omega arith)
   answered_err k (Err d) f h e =
-      let P : CarryFault → Type 0 = λ f. (f.step ≡ k) × Blocked K a b c g x f.fault.operation in
+      let P : CarryFault → Type 0 = λ f. (f.step ≡ k) × Blocked K sides f.fault.operation in
       let p : record { step = k; fault = d } ≡ f = cc in
       subst P p (refl, h)
 
   -- the row that a flip of e gives, where the five rows are those around e
   pub flips_row : (k : ℕ) (t : Triangulation) (e : ℕ) (rows : List N) (r : Result N CarryFault)
-      → (AllStored K a b c g x → r ≡ at_step k (flip_result K a b c g x))
+      → (AllStored K sides → r ≡ at_step k (flip_result K sides))
       → ((v : Values K.exact) → Standing K t.edges v rows → Around t e v)
       → FlipsRow K k t e rows r
   flips_row k t e rows (Ok n) is around = λ v s.
       let h = around v s in
-      let reached = answered_ok k (flip_result K a b c g x) n flips_result (is (around_stored t e v h)) in
+      let reached = answered_ok k (flip_result K sides) n flips_result (is (around_stored t e v h)) in
       (held t e v h n reached, stands_same lawful (new_same t e v h) reached.stands)
   flips_row k t e rows (Err f) is around = λ v s.
       let h = around v s in
-      let refused = answered_err k (flip_result K a b c g x) f flips_result (is (around_stored t e v h)) in
+      let refused = answered_err k (flip_result K sides) f flips_result (is (around_stored t e v h)) in
       (refused.0, blocked t e v h f.fault.operation refused.1)
 
 -- where a legal step leads

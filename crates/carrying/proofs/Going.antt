@@ -1,20 +1,18 @@
 -- A walk that rows are carried along, one step at a time.
-use Rattle.std.proofs.Common.{◌≡◌, ℕ, zero, suc, ◌+◌, ◌≤◌, List, [], ◌∷◌, ◌++◌, length, take, Some, Err, sym, refl, ap, ◌∙◌, subst, add-one, arith}
+use Rattle.std.proofs.Common.{◌≡◌, ℕ, zero, suc, ◌+◌, List, [], ◌∷◌, ◌++◌, length, take, Some, Err, sym, refl, ap, ◌∙◌, subst, add-one, arith}
 use Rattle.std.specs.List.{slice_get}
-use Rattle.std.proofs.lemmas.List.{take_all}
 use Rattle.triangulations.specs.Triangulations.{Triangulation}
 use Rattle.triangulations.specs.Steps.{apply_step, leads, Legal, LegalStep}
 use Rattle.triangulations.specs.Steps.{Step as Move}
 use Rattle.exact.specs.Field.{Field}
-use Rattle.numbers.specs.Numbers.{Numbers, Lawful}
+use Rattle.numbers.specs.Numbers.{Numbers}
 use Rattle.relations.specs.Values.{Values, value_step, leads_values}
 use Rattle.carrying.specs.declared.refusal.CarryRefusal.{CarryRefusal}
 use Rattle.carrying.specs.declared.refusal.CarryRefusal.TheVariants.{RowCount, NotStored, NoStoredResult, NotLegal}
-use Rattle.carrying.specs.Rows.{worths, Ready, Standing}
+use Rattle.carrying.specs.Rows.{worths, Standing}
 use Rattle.carrying.specs.Results.{StepHeld, WalkHeld}
 use Rattle.carrying.specs.Carrying.{Granted, Halted, Illegal, Carries}
 use Rattle.carrying.specs.Stepping.{Stepped, Steps}
-use Rattle.carrying.proofs.Rowwise.{standing_self}
 
 -- the front of a list, with the next element
 take_next : {X : Type 0} (xs : List X) (k : ℕ) (x : X) → slice_get xs k ≡ Some x → take (suc k) xs ≡ take k xs ++ (x ∷ [])
@@ -53,9 +51,6 @@ module _ {N : Type 0} (K : Numbers N) (w : List Move) (t : Triangulation) (befor
   pub record Going (k : ℕ) (u : Triangulation) (rows : List N) : Type 0 where
     pub granted : Granted K (take k w) t before rows
     pub reached : u ≡ leads (take k w) t
-
-  pub going_none : Lawful K → Ready K t.edges before → Going 0 t before
-  going_none lawful h = record { granted = record { ready = h; legal = tt; held = tt; rows = standing_self lawful h }; reached = refl }
 
   module _ (k : ℕ) (u : Triangulation) (rows : List N) (g : Going k u rows) where
     pub going_count : length rows ≡ u.edges
@@ -115,6 +110,3 @@ module _ {N : Type 0} (K : Numbers N) (w : List Move) (t : Triangulation) (befor
       going_refused u' next f h =
           let P : Triangulation → Type 0 = λ x. Steps K {U = Unit {0}} k s x u' rows next (Err f) in
           refused_there u' next f (subst P g.reached h)
-
-    pub going_all : length w ≤ k → Granted K w t before rows
-    going_all h = let P : List Move → Type 0 = λ p. Granted K p t before rows in subst P (take_all k w h) g.granted

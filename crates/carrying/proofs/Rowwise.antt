@@ -2,7 +2,6 @@
 use Rattle.std.proofs.Common.{◌≡◌, ℕ, ◌<◌, cond, eqb, List, length, get_or, set, sym, ap, ◌∙◌, subst, get_or-set_other, get_or-set_same, eq-eqb, ne_eqb}
 use native.Mathlib.Decide.{ℕ_discrete}
 use Rattle.std.proofs.lemmas.List.{get_or-map, length-set}
-use Rattle.std.proofs.ByRecursion.{All-get_or}
 use Rattle.numbers.specs.Numbers.{Numbers, Lawful, Stands}
 use Rattle.relations.specs.Values.{Values}
 use Rattle.carrying.specs.Rows.{worths, Ready, Standing}
@@ -16,7 +15,7 @@ module _ {N : Type 0} {K : Numbers N} where
         let m : k < length rows = rw h.count l in
         let P : K.exact.Exact → Type 0 = λ x. K.exact.same (K.value (get_or rows k d)) x in
         record {
-          stored = All-get_or K.stored rows k d m h.stored;
+          stored = h.stored k d m;
           same = subst P (sym (get_or-map K.value rows k d K.exact.unit m)) (lawful.laws.same_refl _);
         };
   }

@@ -1,7 +1,6 @@
 -- No refusal fits rows that are ready, a legal walk and exact results that all have stored numbers.
 use Rattle.std.proofs.Common.{◌≡◌, ℕ, zero, suc, ◌<◌, List, [], ◌∷◌, length, take, Some, Ok, Err, refl, ◌∙◌, subst, arith}
 use Rattle.std.specs.List.{slice_get}
-use Rattle.std.proofs.ByRecursion.{All-get_or}
 use Rattle.triangulations.specs.Triangulations.{Table, Triangulation}
 use Rattle.triangulations.specs.Steps.{L, R, T, S, apply_step, leads, Legal, LegalStep}
 use Rattle.triangulations.specs.Steps.{Step as Move}
@@ -47,7 +46,7 @@ module _ {N : Type 0} (K : Numbers N) where
   granted_whenever w t before after (Err (RowCount n)) c ready legal held = absurd (c.0.wrong (c.0.count ∙ ready.count))
   granted_whenever w t before after (Err (NotStored f)) c ready legal held =
       let d = some_of before f.index c.1.0 in
-      absurd (c.1.2 d (All-get_or K.stored before f.index d c.1.0 ready.stored))
+      absurd (c.1.2 d (ready.stored f.index d c.1.0))
   granted_whenever w t before after (Err (NoStoredResult f)) c ready legal held =
       absurd (step_passes c.step _ _ f.fault.operation (held_at w t (worths K before) f.step c.step c.there held) c.blocked)
   granted_whenever w t before after (Err (NotLegal k)) c ready legal held = absurd (c.illegal (legal_at w t k c.step c.there legal))

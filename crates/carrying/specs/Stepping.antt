@@ -1,5 +1,5 @@
 -- What judging the rows answers, and what carrying them along one step does.
-use Rattle.std.specs.Prelude.{◌≡◌, ℕ, List, length, Ok, Err, Result}
+use Rattle.std.specs.Prelude.{◌≡◌, ℕ, List, length, Ok, Err, Result, ◌==◌, if◌then◌else◌}
 use Rattle.triangulations.specs.Triangulations.{Triangulation}
 use Rattle.triangulations.specs.Steps.{apply_step, LegalStep}
 use Rattle.triangulations.specs.Steps.{Step as Move}
@@ -13,6 +13,10 @@ use Rattle.carrying.specs.declared.refusal.CarryRefusal.TheVariants.{RowCount, N
 use Rattle.carrying.specs.Rows.{Ready, Standing}
 use Rattle.carrying.specs.Results.{ResultHeld, FlipBlocked, StepHeld, StepBlocked}
 use Rattle.carrying.specs.Carrying.{Miscounted}
+
+-- whether there is a row for each edge
+abbrev pub counted : (edges rows : ℕ) → Result (Unit {0}) CarryRefusal
+counted edges rows = if rows == edges then Ok tt else Err (RowCount rows)
 
 module _ {N : Type 0} (K : Numbers N) where
   -- the rows are one for each edge and stored, or the first reason why not

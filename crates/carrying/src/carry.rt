@@ -1,19 +1,20 @@
-ghost use Rattle.std.specs.Prelude.{◌≡◌, ◌<◌, T, map, length, slice_index_or};
-ghost use Rattle.triangulations.specs.Triangulations.{after, edge_of, flippable};
+ghost use Rattle.std.specs.Prelude.{◌≡◌, ℕ, ◌<◌, ◌≢◌, map, length, slice_index_or, Err, OnErr};
+ghost use Rattle.triangulations.specs.Triangulations.{edge_of};
 ghost use Rattle.triangulations.specs.Meaning.{meant, meant_flip, meant_label};
 ghost use Rattle.triangulations.specs.Boards.{on};
 ghost use Rattle.walks.specs.Walks.{moves};
-ghost use Rattle.carrying.specs.Rows.{Ready};
+ghost use Rattle.carrying.specs.declared.refusal.CarryRefusal.TheVariants.{RowCount};
+ghost use Rattle.carrying.specs.Rows.{Ready, Within, IsSides};
 ghost use Rattle.carrying.specs.Carrying.{Carries};
-ghost use Rattle.carrying.specs.Stepping.{Judged, FlipsRow, Steps};
+ghost use Rattle.carrying.specs.Stepping.{counted, Judged, Steps};
 
 use crate::refusal::CarryRefusal;
-use numbers::fault::CarryFault;
 use numbers::judge::judge;
 use numbers::kind::Kind;
-use numbers::ptolemy::value_at_step;
+use numbers::ptolemy::Sides;
 use triangulations::board::Board;
-use triangulations::darts::{Dart, Edge};
+use triangulations::darts::Dart;
+use triangulations::quadrilateral::Quadrilateral;
 use triangulations::step::{Flip, Label, Step};
 use walks::walk::Walk;
 
@@ -36,12 +37,20 @@ pub fn carry<K: Kind>(
 fn judge_rows<K: Kind>(edges: u8, rows: &[K]) -> Result<(), CarryRefusal>
     ensures { Judged K.numbers edges rows.now result }
 {
+    count_rows(edges, rows)?;
+    Ok(judge(rows)?)
+}
+
+// Whether there is a row for each edge.
+fn count_rows<K: Kind>(edges: u8, rows: &[K]) -> Result<(), CarryRefusal>
+    ensures { result ≡ counted edges (length rows.now) }
+{
     let count = rows.len();
-    if count != edges as usize {
-        return Err(CarryRefusal::RowCount { count });
+    if count == edges as usize {
+        Ok(())
+    } else {
+        Err(CarryRefusal::RowCount { count })
     }
-    judge(rows)?;
-    Ok(())
 }
 
 fn carry_along<K: Kind>(
@@ -58,21 +67,26 @@ fn carry_along<K: Kind>(
     Ok(())
 }
 
-// Step `k` of the walk, on the board that the steps before it reach.
-fn carry_step<K: Kind>(
+/// Carries the rows along one step, with the index `k` in its walk, on the board that the steps before it reach. There is to be
+/// a row for each edge, a stored number. Where the step is refused, rows and board stay as they are.
+pub fn carry_step<K: Kind>(
     k: usize,
     step: Step,
     rows: &mut [K],
     board: &mut Board,
 ) -> Result<(), CarryRefusal>
-    requires { length rows.old ≡ (on board.old).edges }
-    ensures { Steps K.numbers k (meant step) (on board.old) (on board.new) rows.old rows.new result }
+    ensures stepped { length rows.old ≡ (on board.old).edges → Steps K.numbers k (meant step) (on board.old) (on board.new) rows.old rows.new result }
+    ensures miscounted { length rows.old ≢ (on board.old).edges → result ≡ Err (RowCount (length rows.old)) }
+    ensures kept { OnErr result ((rows.new ≡ rows.old) × (on board.new ≡ on board.old)) }
 {
+    count_rows(board.edges(), rows)?;
     match step {
         Step::Flip(flip) => carry_flip(k, flip, rows, board),
         Step::Label(label) => carry_label(k, label, rows, board),
     }
 }
+
+// Rows and board go side by side: both public calls take them from the caller, and of what is left only two ask how they fit.
 
 // A flip writes the new value to the row of its edge.
 fn carry_flip<K: Kind>(
@@ -82,15 +96,17 @@ fn carry_flip<K: Kind>(
     board: &mut Board,
 ) -> Result<(), CarryRefusal>
     requires { length rows.old ≡ (on board.old).edges }
-    ensures { Steps K.numbers k (meant_flip flip) (on board.old) (on board.new) rows.old rows.new result }
+    ensures stepped { Steps K.numbers k (meant_flip flip) (on board.old) (on board.new) rows.old rows.new result }
+    ensures kept { OnErr result ((rows.new ≡ rows.old) × (on board.new ≡ on board.old)) }
 {
-    if !board.is_flippable(flip.edge) {
-        return Err(CarryRefusal::NotLegal { step: k });
-    }
-    let value = flipped_row(k, flip.edge, rows, board)?;
-    let row = flip.edge as usize;
-    rows[row] = value;
-    board.step(Step::Flip(flip));
+    let around = board
+        .around(flip.edge)
+        .ok_or(CarryRefusal::NotLegal { step: k })?;
+    let value = sides_in(rows, around).flipped_at(k)?;
+    board
+        .step(Step::Flip(flip))
+        .map_err(|_| CarryRefusal::NotLegal { step: k })?;
+    rows[flip.edge as usize] = value;
     Ok(())
 }
 
@@ -102,37 +118,30 @@ fn carry_label<K: Kind>(
     board: &mut Board,
 ) -> Result<(), CarryRefusal>
     requires { length rows.old ≡ (on board.old).edges }
-    ensures { Steps K.numbers k (meant_label label) (on board.old) (on board.new) rows.old rows.new result }
+    ensures stepped { Steps K.numbers k (meant_label label) (on board.old) (on board.new) rows.old rows.new result }
+    ensures kept { OnErr result ((rows.new ≡ rows.old) × (on board.new ≡ on board.old)) }
 {
-    if !board.step(Step::Label(label)) {
-        return Err(CarryRefusal::NotLegal { step: k });
-    }
+    board
+        .step(Step::Label(label))
+        .map_err(|_| CarryRefusal::NotLegal { step: k })?;
     if let Label::Swap(e, f) = label {
         rows.swap(e as usize, f as usize);
     }
     Ok(())
 }
 
-// The number that a flip of the edge, as step `k`, gives its row.
-fn flipped_row<K: Kind>(k: usize, edge: Edge, rows: &[K], board: &Board) -> Result<K, CarryFault>
-    requires flippable { T (flippable (on board.now).next edge) }
-    requires count { length rows.now ≡ (on board.now).edges }
-    ensures { FlipsRow K.numbers k (on board.now) edge rows.now result }
+// The rows of the edges around an edge and of the edge.
+fn sides_in<K: Kind>(rows: &[K], around: Quadrilateral) -> Sides<K>
+    requires { Within around (length rows.now) }
+    ensures { IsSides around rows.now result }
 {
-    let d = 2 * edge;
-    let p = d + 1;
-    let a = next(board, d);
-    let b = next(board, a);
-    let c = next(board, p);
-    let g = next(board, c);
-    value_at_step(
-        k,
-        row_of(rows, a),
-        row_of(rows, b),
-        row_of(rows, c),
-        row_of(rows, g),
-        row_of(rows, d),
-    )
+    Sides {
+        a: row_of(rows, around.a),
+        b: row_of(rows, around.b),
+        c: row_of(rows, around.c),
+        g: row_of(rows, around.g),
+        e: row_of(rows, around.d),
+    }
 }
 
 // The row of a dart's edge.
@@ -141,14 +150,4 @@ fn row_of<K: Kind>(rows: &[K], dart: Dart) -> K
     ensures { result ≡ slice_index_or rows.now (edge_of dart) result }
 {
     rows[(dart / 2) as usize]
-}
-
-// The dart that follows `dart`, or `dart` itself where none does.
-fn next(board: &Board, dart: Dart) -> Dart
-    ensures { result ≡ after (on board.now).next dart }
-{
-    match board.after(dart) {
-        Some(a) => a,
-        None => dart,
-    }
 }

@@ -19,7 +19,7 @@ pub enum CarryRefusal {
 }
 
 impl CarryRefusal {
-    /// The number by which the refusal is told.
+    /// The number by which the refusal is told: what is printed. The enum says which refusal it is.
     pub fn number(self) -> u8
         ensures { result ≡ refusal_number self }
     {
@@ -56,6 +56,7 @@ impl CarryRefusal {
     }
 }
 
+// By hand, both: a clause says which refusal a `?` makes, and a derive has none.
 impl From<Unstored> for CarryRefusal {
     ghost from_gives = { λ f r. r ≡ NotStored f };
 

@@ -1,5 +1,5 @@
 -- What the bytes of a case file read as, from left to right.
-use Rattle.std.specs.Prelude.{◌≡◌, ℕ, ◌+◌, ◌-◌, ◌*◌, Bool, cond, List, length, drop, Ok, Err, Result, nat_lt, slice_index}
+use Rattle.std.specs.Prelude.{◌≡◌, ℕ, ◌+◌, ◌-◌, ◌*◌, Bool, if◌then◌else◌, List, length, drop, Ok, Err, Result, nat_lt, slice_index}
 use Rattle.case_file.specs.declared.cursor.Cursor.{Cursor}
 use Rattle.case_file.specs.declared.refusal.Refusal.{Refusal}
 use Rattle.case_file.specs.declared.refusal.Refusal.TheVariants.{EndsEarly}
@@ -21,17 +21,17 @@ abbrev pub past : ℕ → Position → Position
 past w p = record { size = p.size; rest = drop w p.rest }
 
 -- first one reading and then the next, unless the first is refused
-abbrev pub then : {X Y : Type 0} → Result X Refusal → (X → Result Y Refusal) → Result Y Refusal
-then (Ok x) f = f x
-then (Err e) f = Err e
+abbrev pub and_then : {X Y : Type 0} → Result X Refusal → (X → Result Y Refusal) → Result Y Refusal
+and_then (Ok x) f = f x
+and_then (Err e) f = Err e
 
 -- refused with e where the test holds
 abbrev pub refused_if : {Y : Type 0} → Bool → Refusal → Result Y Refusal → Result Y Refusal
-refused_if test e r = cond test (Err e) r
+refused_if test e r = if test then Err e else r
 
 -- w bytes, whole, and what they are read as
 abbrev pub whole : {X : Type 0} → ℕ → (List ℕ → Result X Refusal) → Position → Result (X × Position) Refusal
-whole w read p = refused_if (nat_lt (length p.rest) w) (EndsEarly p.size) (then (read p.rest) (λ x. Ok (x, past w p)))
+whole w read p = refused_if (nat_lt (length p.rest) w) (EndsEarly p.size) (and_then (read p.rest) (λ x. Ok (x, past w p)))
 
 -- the two bytes of a count, the high one first
 abbrev pub count_in : List ℕ → Result ℕ Refusal

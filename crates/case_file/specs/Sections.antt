@@ -1,5 +1,5 @@
 -- The sections of a case file. Each opens with its count, two bytes.
-use Rattle.std.specs.Prelude.{ℕ, ◌+◌, ◌-◌, ◌*◌, ◌/◌, min, Bool, cond, ◌||◌, List, map, length, Some, None, Ok, Err, Option, Result, ◌==◌, nat_lt, slice_index}
+use Rattle.std.specs.Prelude.{ℕ, ◌+◌, ◌-◌, ◌*◌, ◌/◌, min, Bool, if◌then◌else◌, ◌||◌, List, map, length, Some, None, Ok, Err, Option, Result, ◌==◌, nat_lt, slice_index}
 use Rattle.std.specs.List.{range_with_len}
 use Rattle.triangulations.specs.Triangulations.{Triangulation}
 use Rattle.surfaces.specs.declared.faults.SurfaceFault.{SurfaceFault}
@@ -14,7 +14,7 @@ use Rattle.case_file.specs.declared.surface_section.CaseSurface.TheVariants as s
 use Rattle.case_file.specs.declared.values_section.ValuesHead.{ValuesHead}
 use Rattle.case_file.specs.declared.refusal.Refusal.{Refusal}
 use Rattle.case_file.specs.declared.refusal.Refusal.TheVariants.{EndsEarly, UnknownMark, CountOutside, NotDiagonal, Crosses}
-use Rattle.case_file.specs.Reading.{Position, offset, past, whole, then, refused_if, count_at, mark_at}
+use Rattle.case_file.specs.Reading.{Position, offset, past, whole, and_then, refused_if, count_at, mark_at}
 
 -- whether a count lies outside its limits
 abbrev pub outside : (least most count : ℕ) → Bool
@@ -58,21 +58,19 @@ polygon_at start n p =
 -- so many punctures.
 abbrev pub surface_at : Position → Result (Triangulation × Position) Refusal
 surface_at p =
-    then (count_at p) (λ n. then (mark_at n.1) (λ m.
-    cond (m.0 == 0x50)
-    (refused_if (outside 3 33 n.0) (CountOutside (offset p)) (polygon_at (offset p) n.0 m.1))
-    (cond (m.0 == 0x54)
-    (refused_if (outside 1 21 n.0) (CountOutside (offset p)) (Ok (torus n.0, m.1)))
-    (Err (UnknownMark (offset n.1))))))
+    and_then (count_at p) (λ n. and_then (mark_at n.1) (λ m.
+    if m.0 == 0x50 then refused_if (outside 3 33 n.0) (CountOutside (offset p)) (polygon_at (offset p) n.0 m.1)
+    else (if m.0 == 0x54 then refused_if (outside 1 21 n.0) (CountOutside (offset p)) (Ok (torus n.0, m.1))
+    else Err (UnknownMark (offset n.1)))))
 
 -- a section of records of so many bytes, passed over unjudged
 abbrev pub passed_at : ℕ → Position → Result (ℕ × Position) Refusal
-passed_at width p = then (count_at p) (λ n. whole (n.0 * width) (λ bytes. Ok n.0) n.1)
+passed_at width p = and_then (count_at p) (λ n. whole (n.0 * width) (λ bytes. Ok n.0) n.1)
 
 -- the head of the values: their count and the mark of their kind
 abbrev pub values_head_at : Position → Result (ValuesHead × Position) Refusal
-values_head_at p = then (count_at p) (λ n. then (mark_at n.1) (λ m. Ok (record { count = n.0; mark = m.0; offset = offset n.1 }, m.1)))
+values_head_at p = and_then (count_at p) (λ n. and_then (mark_at n.1) (λ m. Ok (record { count = n.0; mark = m.0; offset = offset n.1 }, m.1)))
 
 -- the count of a walk's steps, at most 256
 abbrev pub walk_count_at : Position → Result (ℕ × Position) Refusal
-walk_count_at p = then (count_at p) (λ n. refused_if (nat_lt 256 n.0) (CountOutside (offset p)) (Ok n))
+walk_count_at p = and_then (count_at p) (λ n. refused_if (nat_lt 256 n.0) (CountOutside (offset p)) (Ok n))

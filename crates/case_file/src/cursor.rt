@@ -33,29 +33,29 @@ impl<'a> Cursor<'a> {
     pub fn is_at_end(&self) -> bool
         ensures { result ≡ (length (position self.now).rest == 0) }
     {
-        self.rest.len() == 0
+        self.rest.is_empty()
     }
 
     /// Reads the count that opens a section.
     pub fn count(&mut self) -> Result<u16, Refusal>
         ensures { Gives itself result (position self.new) (count_at (position self.old)) }
     {
-        let bytes = self.rest;
-        let [hi, lo, rest @ ..] = bytes else {
+        // The rule for all sections: a count is taken by this pattern.
+        let [hi, lo, rest @ ..] = self.rest else {
             return Err(Refusal::EndsEarly { length: self.size });
         };
         self.rest = rest;
-        Ok(256 * *hi as u16 + *lo as u16)
+        Ok(u16::from_be_bytes([*hi, *lo]))
     }
 
     /// Reads a mark.
     pub fn mark(&mut self) -> Result<u8, Refusal>
         ensures { Gives itself result (position self.new) (mark_at (position self.old)) }
     {
-        let bytes = self.rest;
-        let [mark, rest @ ..] = bytes else {
-            return Err(Refusal::EndsEarly { length: self.size });
-        };
+        let (mark, rest) = self
+            .rest
+            .split_first()
+            .ok_or(Refusal::EndsEarly { length: self.size })?;
         self.rest = rest;
         Ok(*mark)
     }

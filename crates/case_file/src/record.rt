@@ -5,8 +5,9 @@ ghost use Rattle.case_file.specs.Records.{seen, step_record_at, value_record_at}
 use crate::cursor::Cursor;
 use crate::refusal::Refusal;
 
-/// A record as it lies in the file: its offset, and its bytes, which are those of the file.
-#[derive(Clone, Copy)]
+/// A record as it lies in the file: its offset, and its bytes, which are those of the file. One type serves the records of all
+/// sections.
+#[derive(Clone, Copy, PartialEq, Eq, Debug)]
 pub enum Record<'a> {
     Step {
         offset: usize,
@@ -25,8 +26,8 @@ pub fn next_step_record<'a>(from: &mut Cursor<'a>) -> Result<Record<'a>, Refusal
     ensures { Gives seen result (position from.new) (step_record_at (position from.old)) }
 {
     let offset = from.offset();
-    let bytes = from.rest;
-    let [code, e, f, rest @ ..] = bytes else {
+    // The rule for all records: their first bytes have names.
+    let [code, e, f, rest @ ..] = from.rest else {
         return Err(Refusal::EndsEarly { length: from.size });
     };
     from.rest = rest;
@@ -38,11 +39,10 @@ pub fn next_value_record<'a>(width: usize, from: &mut Cursor<'a>) -> Result<Reco
     ensures { Gives seen result (position from.new) (value_record_at width (position from.old)) }
 {
     let offset = from.offset();
-    let bytes = from.rest;
-    if bytes.len() < width {
-        return Err(Refusal::EndsEarly { length: from.size });
-    }
-    let (bytes, rest) = bytes.split_at(width);
+    let (bytes, rest) = from
+        .rest
+        .split_at_checked(width)
+        .ok_or(Refusal::EndsEarly { length: from.size })?;
     from.rest = rest;
     Ok(Record::Value { offset, bytes })
 }

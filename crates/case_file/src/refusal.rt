@@ -30,6 +30,8 @@ pub enum Refusal {
 }
 
 impl Refusal {
+    /// The number by which the refusal is told.
+    // A number, since it is what is printed; the enum says which refusal it is.
     pub fn number(self) -> u8
         ensures { result ≡ refusal_number self }
     {
@@ -47,6 +49,7 @@ impl Refusal {
         }
     }
 
+    /// The layer that refuses: 1 is the file, 2 the surface, 3 the walk, 6 the numbers.
     pub fn layer(self) -> u8
         ensures { result ≡ refusal_layer self }
     {
@@ -62,18 +65,18 @@ impl Refusal {
         }
     }
 
+    /// The length of the file, an offset in it, the index of a pair, a step or a value, or how many values there are.
     pub fn place(self) -> usize
         ensures { result ≡ refusal_place self }
     {
         match self {
             Refusal::EndsEarly { length } => length,
-            Refusal::UnknownMark { offset } => offset,
-            Refusal::CountOutside { offset } => offset,
-            Refusal::NotDiagonal { index } => index,
-            Refusal::Crosses { index } => index,
-            Refusal::StepRecord { index, .. } => index,
-            Refusal::NotFlippable { index } => index,
-            Refusal::NotNumber { index } => index,
+            Refusal::UnknownMark { offset } | Refusal::CountOutside { offset } => offset,
+            Refusal::NotDiagonal { index }
+            | Refusal::Crosses { index }
+            | Refusal::StepRecord { index, .. }
+            | Refusal::NotFlippable { index }
+            | Refusal::NotNumber { index } => index,
             Refusal::NoStoredResult { fault } => fault.step,
             Refusal::ValueCount { count } => count,
         }

@@ -7,9 +7,10 @@ ghost use Rattle.polygons.specs.Shape.{polygon_sound};
 
 use crate::cursor::Cursor;
 use crate::refusal::Refusal;
+use arrayvec::ArrayVec;
 use polygon_counting::diagonal::Diagonal;
 use polygons::judging::judge_diagonals;
-use polygons::polygon::Polygon;
+use polygons::polygon::{MOST_DIAGONALS, Polygon};
 use surfaces::faults::SurfaceFault;
 use surfaces::surface_trait::Surface;
 use surfaces::torus::Torus;
@@ -22,6 +23,7 @@ pub enum CaseSurface {
     Polygon(Polygon),
 }
 
+// Its methods are matches, since no generic code ranges over the cases of an enum.
 impl Surface for CaseSurface {
     ghost use Rattle.case_file.specs.declared.surface_section.CaseSurface.TheVariants as surface;
 
@@ -33,14 +35,14 @@ impl Surface for CaseSurface {
     ] };
 
     fn edges(&self) -> u8 {
-        match *self {
+        match self {
             CaseSurface::Torus(torus) => torus.edges(),
             CaseSurface::Polygon(polygon) => polygon.edges(),
         }
     }
 
     fn after(&self, dart: Dart) -> Option<Dart> {
-        match *self {
+        match self {
             CaseSurface::Torus(torus) => torus.after(dart),
             CaseSurface::Polygon(polygon) => polygon.after(dart),
         }
@@ -55,17 +57,15 @@ pub fn read_surface(from: &mut Cursor) -> Result<CaseSurface, Refusal>
     let count = from.count()?;
     let offset = from.offset();
     match from.mark()? {
-        0x50 => {
-            if count < 3 || count > 33 {
+        b'P' => {
+            if !(3..=33).contains(&count) {
                 return Err(Refusal::CountOutside { offset: start });
             }
-            let polygon = read_polygon(start, count, from)?;
-            Ok(CaseSurface::Polygon(polygon))
+            Ok(CaseSurface::Polygon(read_polygon(start, count, from)?))
         }
-        0x54 => match Torus::new(count) {
-            Ok(torus) => Ok(CaseSurface::Torus(torus)),
-            Err(_) => Err(Refusal::CountOutside { offset: start }),
-        },
+        b'T' => Torus::new(count)
+            .map(CaseSurface::Torus)
+            .map_err(|_| Refusal::CountOutside { offset: start }),
         _ => Err(Refusal::UnknownMark { offset }),
     }
 }
@@ -77,39 +77,29 @@ fn read_polygon(start: usize, corners: u16, from: &mut Cursor) -> Result<Polygon
 {
     let wanted = corners as usize - 3;
     let bytes = from.rest;
-    let (pairs, count) = pairs_in(wanted, bytes);
-    let diagonals = &pairs[0..count];
-    if let Some(fault) = judge_diagonals(corners as u8, diagonals) {
-        return Err(refusal_of(start, fault));
-    }
-    if bytes.len() < 2 * wanted {
-        return Err(Refusal::EndsEarly { length: from.size });
-    }
-    from.rest = &bytes[2 * wanted..];
-    match Polygon::new(corners, diagonals) {
-        Ok(polygon) => Ok(polygon),
-        Err(fault) => Err(refusal_of(start, fault)),
-    }
+    let diagonals = pairs_in(wanted, bytes);
+    // A fault of a diagonal comes before the want of a later one.
+    judge_diagonals(corners as u8, &diagonals).map_err(|fault| refusal_of(start, fault))?;
+    from.rest = bytes
+        .get(2 * wanted..)
+        .ok_or(Refusal::EndsEarly { length: from.size })?;
+    Polygon::new(corners, &diagonals).map_err(|fault| refusal_of(start, fault))
 }
 
 // The pairs that the bytes have whole, at most so many.
-fn pairs_in(wanted: usize, bytes: &[u8]) -> ([Diagonal; 30], usize)
+fn pairs_in(wanted: usize, bytes: &[u8]) -> ArrayVec<Diagonal, MOST_DIAGONALS>
     requires { wanted ≤ 30 }
-    ensures count { result.1 ≡ whole_pairs wanted bytes.now }
-    ensures pairs { take result.1 result.0 ≡ pairs_in wanted bytes.now }
-    ensures room { length result.0 ≡ 30 }
+    ensures { result.items ≡ pairs_in wanted bytes.now }
 {
-    let count = wanted.min(bytes.len() / 2);
-    let mut pairs = [Diagonal { low: 0, high: 0 }; 30];
-    for k in 0..count {
-        pairs[k] = Diagonal {
-            low: bytes[2 * k],
-            high: bytes[2 * k + 1],
-        };
+    let (pairs, _) = bytes.as_chunks::<2>();
+    let mut diagonals = ArrayVec::new();
+    for &[low, high] in &pairs[..wanted.min(pairs.len())] {
+        diagonals.push(Diagonal { low, high });
     }
-    (pairs, count)
+    diagonals
 }
 
+// No `From`: the offset stands beside the fault.
 fn refusal_of(start: usize, fault: SurfaceFault) -> Refusal
     ensures { result ≡ surface_refusal start fault }
 {

@@ -8,8 +8,9 @@ use crate::record::{Record, next_value_record};
 use crate::refusal::Refusal;
 use numbers::kind::Kind;
 
-/// How many values a case has, and the mark of their kind, with its offset.
-#[derive(Clone, Copy)]
+/// How many values a case has, and the mark of their kind, with its offset. The mark is a byte, since there may be more kinds: each
+/// type that is a `Kind` has its own.
+#[derive(Clone, Copy, PartialEq, Eq, Debug)]
 pub struct ValuesHead {
     pub count: u16,
     pub mark: u8,
@@ -21,10 +22,8 @@ pub fn pass_section(width: usize, from: &mut Cursor) -> Result<u16, Refusal>
     ensures { Gives itself result (position from.new) (passed_at width (position from.old)) }
 {
     let count = from.count()?;
-    match next_value_record((count as usize).saturating_mul(width), from) {
-        Ok(_) => Ok(count),
-        Err(refusal) => Err(refusal),
-    }
+    next_value_record((count as usize).saturating_mul(width), from)?;
+    Ok(count)
 }
 
 /// Reads the head of the values.
@@ -45,12 +44,9 @@ pub fn read_values_head(from: &mut Cursor) -> Result<ValuesHead, Refusal>
 pub fn read_value<K: Kind>(index: usize, from: &mut Cursor) -> Result<K, Refusal>
     ensures { ReadsValue K.numbers K.layout index (position from.old) (position from.new) result }
 {
-    let (_, width) = K::shape();
-    match next_value_record(width, from)? {
-        Record::Value { bytes, .. } => match K::read(bytes) {
-            Some(number) => Ok(number),
-            None => Err(Refusal::NotNumber { index }),
-        },
-        Record::Step { .. } => unreachable(),
-    }
+    // A rule of the project: one type serves all records. This reader gives no other case, which the check proves.
+    let Record::Value { bytes, .. } = next_value_record(K::WIDTH, from)? else {
+        unreachable!()
+    };
+    K::read(bytes).ok_or(Refusal::NotNumber { index })
 }

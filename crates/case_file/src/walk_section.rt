@@ -6,10 +6,7 @@ ghost use Rattle.case_file.specs.Sections.{walk_count_at};
 use crate::cursor::Cursor;
 use crate::record::{Record, next_step_record};
 use crate::refusal::Refusal;
-use triangulations::step::Step;
-
-/// At most so many steps has a walk.
-pub const MOST_STEPS: u16 = 256;
+use triangulations::step::{MOST_STEPS, Step};
 
 /// Reads the count that opens a walk.
 pub fn read_walk_count(from: &mut Cursor) -> Result<u16, Refusal>
@@ -17,7 +14,7 @@ pub fn read_walk_count(from: &mut Cursor) -> Result<u16, Refusal>
 {
     let offset = from.offset();
     let count = from.count()?;
-    if count > MOST_STEPS {
+    if count as usize > MOST_STEPS {
         return Err(Refusal::CountOutside { offset });
     }
     Ok(count)
@@ -27,11 +24,9 @@ pub fn read_walk_count(from: &mut Cursor) -> Result<u16, Refusal>
 pub fn read_step(edges: u8, index: usize, from: &mut Cursor) -> Result<Step, Refusal>
     ensures { Gives itself result (position from.new) (step_at edges index (position from.old)) }
 {
-    match next_step_record(from)? {
-        Record::Step { code, e, f, .. } => match Step::read([*code, *e, *f], edges) {
-            Ok(step) => Ok(step),
-            Err(fault) => Err(Refusal::StepRecord { index, fault }),
-        },
-        Record::Value { .. } => unreachable(),
-    }
+    // A rule of the project: one type serves all records. This reader gives no other case, which the check proves.
+    let Record::Step { code, e, f, .. } = next_step_record(from)? else {
+        unreachable!()
+    };
+    Step::read([*code, *e, *f], edges).map_err(|fault| Refusal::StepRecord { index, fault })
 }

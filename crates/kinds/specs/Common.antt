@@ -1,10 +1,12 @@
 -- Common divisors: Euclid's lemma, and the one reduced form.
 use Rattle.std.specs.Prelude.{◌≡◌, ℕ, zero, suc, ◌+◌, ◌-◌, ◌*◌, ◌/◌, ◌%◌, ◌<◌, ◌≤◌, Bool, true, false, ◌⊎◌, ◌==◌, ◌≢◌}
 use Rattle.std.proofs.Common.{sym, ap, subst, ◌∙◌, inl, inr, ⊎_elim, mod-lt, arith}
-use Rattle.std.specs.Int.{◌∣◌}
-use Rattle.std.proofs.Math.Nat.{dvd_refl, dvd-zero, dvd-mul_right, dvd-mul_right_of_dvd, dvd-add_iff_right, dvd_antisymm, dvd-one, dvd_of_mul-dvd-mul_left, mul-div_cancel', mul-dvd-mul_left, dvd-mod_iff, eq_of_mul-eq-mul_right}
+use Rattle.std.specs.Int.{◌∣◌, IsGcd}
+use Rattle.std.proofs.Math.Nat.{dvd-mul_right, dvd-mul_right_of_dvd, dvd-add_iff_right, dvd_antisymm, dvd-one, dvd_of_mul-dvd-mul_left, mul-div_cancel', mul-dvd-mul_left, eq_of_mul-eq-mul_right}
+use Rattle.std.proofs.lemmas.Nat.Gcd.{IsGcd-from_zero, IsGcd-from_mod}
+use Rattle.std.proofs.lemmas.Bool.{cases_lt}
 use Rattle.std.proofs.lemmas.Bool.Decides.{leb_tells, eqb_tells}
-use Rattle.kinds.specs.Divisors.{Coprime, Gcd, euclid, euclid_in}
+use Rattle.kinds.specs.Divisors.{Coprime, euclid, euclid_in}
 
 -- a multiple of a is a multiple of b and g, where g divides both
 pub record Combined (a b : ℕ) : Type 0 where
@@ -16,9 +18,6 @@ pub record Combined (a b : ℕ) : Type 0 where
   pub sum : a * x ≡ b * y + g
   pub first : a ≡ g * k
   pub second : b ≡ g * l
-
-pub lt_or_ge : (a b : ℕ) → (a < b) ⊎ (b ≤ a)
-lt_or_ge a b = ⊎_elim (λ h. inr h.1) (λ h. inl h.1) (leb_tells b a)
 
 -- b times the first factor goes to the other side
 add_first : (m b a : ℕ) → a ≡ m + b → Combined m b → Combined a b
@@ -55,10 +54,10 @@ combined (suc n) a b h p =
     (λ (q : b < a). ⊎_elim
     (λ (z : 0 < b). add_first (a - b) b a (omega arith) (combined n (a - b) b (omega arith) (omega arith)))
     (λ (z : b ≤ 0). record { x = 1; y = 0; g = a; k = 1; l = 0; sum = omega arith; first = omega arith; second = omega arith })
-    (lt_or_ge 0 b))
+    (cases_lt 0 b))
     (λ (q : a ≤ b). record { x = 1; y = 0; g = a; k = 1; l = 1; sum = omega arith; first = omega arith; second = omega arith })
-    (lt_or_ge b a))
-    (lt_or_ge a b)
+    (cases_lt b a))
+    (cases_lt a b)
 
 pub divides : (a b k : ℕ) → b ≡ a * k → a ∣ b
 divides a b k e = let P : ℕ → Type 0 = λ n. a ∣ n in subst P (sym e) (dvd-mul_right a k)
@@ -85,12 +84,12 @@ factor_pos : (x y z : ℕ) → x * y ≡ z → 0 < z → 0 < x
 factor_pos zero y z e h = absurd (omega arith)
 factor_pos (suc x) y z e h = omega arith
 
-module _ (a b g : ℕ) (pa : 0 < a) (pb : 0 < b) (h : Gcd a b g) where
+module _ (a b g : ℕ) (pa : 0 < a) (pb : 0 < b) (h : IsGcd a b g) where
   pub gcd_left : g * (a / g) ≡ a
-  gcd_left = mul-div_cancel' g h.left
+  gcd_left = mul-div_cancel' g h.0
 
   pub gcd_right : g * (b / g) ≡ b
-  gcd_right = mul-div_cancel' g h.right
+  gcd_right = mul-div_cancel' g h.1
 
   pub gcd_pos : 0 < g
   gcd_pos = factor_pos g (a / g) a gcd_left pa
@@ -105,35 +104,26 @@ module _ (a b g : ℕ) (pa : 0 < a) (pb : 0 < b) (h : Gcd a b g) where
   pub lowest_terms : Coprime (a / g) (b / g)
   lowest_terms d l r =
       let P : ℕ → Type 0 = λ n. g * d ∣ n in
-      let big : g * d ∣ g = h.all (g * d) (subst P gcd_left (mul-dvd-mul_left d g l)) (subst P gcd_right (mul-dvd-mul_left d g r)) in
+      let big : g * d ∣ g = h.2 (g * d) (subst P gcd_left (mul-dvd-mul_left d g l)) (subst P gcd_right (mul-dvd-mul_left d g r)) in
       let one : g ≡ g * 1 = omega arith in
       dvd-one.0 (dvd_of_mul-dvd-mul_left d gcd_pos (subst P one big))
 
   pub same_terms : a / g * b ≡ a * (b / g)
   same_terms = omega (arith, ap (λ (t : ℕ). a / g * t) gcd_right, ap (λ (t : ℕ). t * (b / g)) gcd_left)
 
--- one turn of Euclid's algorithm keeps the common divisors
-turned : (a b g : ℕ) → Gcd b (a % b) g → Gcd a b g
-turned a b g h = record {
-  left = (dvd-mod_iff g {m = a} {n = b} h.left).0 h.right;
-  right = h.left;
-  all = λ d l r. h.all d r ((dvd-mod_iff d {m = a} {n = b} r).1 l);
-}
-
-pub euclid_turns : (k a b : ℕ) → b < k → Gcd a b (euclid_in k a b)
+pub euclid_turns : (k a b : ℕ) → b < k → IsGcd a b (euclid_in k a b)
 euclid_turns zero a b h = absurd (omega arith)
 euclid_turns (suc k) a b h = go (b == 0) (eqb_tells b 0) (λ positive. euclid_turns k b (a % b) (omega (arith, mod-lt a positive)))
   where
     go :
-        (t : Bool) → ((t ≡ true) × (b ≡ 0)) ⊎ ((t ≡ false) × (b ≢ 0)) → (0 < b → Gcd b (a % b) (euclid_in k b (a % b))) →
-        Gcd a b (elim t [ true ↦ a | false ↦ euclid_in k b (a % b) ])
+        (t : Bool) → ((t ≡ true) × (b ≡ 0)) ⊎ ((t ≡ false) × (b ≢ 0)) → (0 < b → IsGcd b (a % b) (euclid_in k b (a % b))) →
+        IsGcd a b (elim t [ true ↦ a | false ↦ euclid_in k b (a % b) ])
     go true h next =
         let zero_is : b ≡ 0 = ⊎_elim (λ z. z.1) (λ z. absurd (let e : ◌≡◌ {A = ℕ} 0 1 = cc z.0 in omega arith)) h in
-        let P : ℕ → Type 0 = λ n. a ∣ n in
-        record { left = dvd_refl a; right = subst P (sym zero_is) (dvd-zero a); all = λ d l r. l }
+        IsGcd-from_zero a b zero_is
     go false h next =
         let not_zero : b ≡ 0 → ⊥ = ⊎_elim (λ z. absurd (let e : ◌≡◌ {A = ℕ} 0 1 = cc z.0 in omega arith)) (λ z. z.1) h in
-        turned a b _ (next (omega (arith, not_zero)))
+        IsGcd-from_mod a b _ (next (omega (arith, not_zero)))
 
-pub euclid_is : (a b : ℕ) → Gcd a b (euclid a b)
+pub euclid_is : (a b : ℕ) → IsGcd a b (euclid a b)
 euclid_is a b = euclid_turns (suc b) a b (omega arith)

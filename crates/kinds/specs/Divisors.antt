@@ -6,12 +6,6 @@ use Rattle.std.specs.Int.{◌∣◌}
 abbrev pub Coprime : ℕ → ℕ → Type 0
 Coprime a b = (d : ℕ) → d ∣ a → d ∣ b → d ≡ 1
 
--- The greatest common divisor: g divides both, and each common divisor divides g.
-pub record Gcd (a b g : ℕ) : Type 0 where
-  pub left : g ∣ a
-  pub right : g ∣ b
-  pub all : (d : ℕ) → d ∣ a → d ∣ b → d ∣ g
-
 -- Euclid's algorithm, in at most k turns.
 abbrev pub euclid_in : ℕ → ℕ → ℕ → ℕ
 euclid_in zero a b = a

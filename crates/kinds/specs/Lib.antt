@@ -1,4 +1,3 @@
-pub mod Pages
 pub mod Weights
 pub mod Divisors
 pub mod Fractions

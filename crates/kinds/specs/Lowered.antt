@@ -1,7 +1,7 @@
 -- Fractions in lowest terms: the stored number of a value, and the laws.
 use Rattle.std.specs.Prelude.{◌≡◌, ℕ, suc, pred, ◌+◌, ◌*◌, ◌/◌, ◌<◌, ◌≤◌, true, ◌⊎◌, Some, None, Decides, ◌==◌, nat_le, refl}
 use Rattle.std.proofs.Common.{ap, subst, ◌∙◌, inl, inr, ⊎_elim, mul-pos, div-le_self, arith, length-append}
-use Rattle.std.specs.Int.{◌∣◌}
+use Rattle.std.specs.Int.{◌∣◌, IsGcd}
 use Rattle.std.proofs.Math.Nat.{eq_of_mul-eq-mul_left, dvd-one}
 use Rattle.std.proofs.lemmas.Bool.Decides.{Decides-eqb, Decides-like, leb_tells}
 use Rattle.std.proofs.lemmas.Fmt.{length-decimal-le}
@@ -9,7 +9,7 @@ use Rattle.exact.specs.Models.{Ratio, SameRatio, ratio_sum, ratio_product, ratio
 use Rattle.exact.specs.ModelsLemmas.{ratios_laws}
 use Rattle.numbers.specs.Numbers.{Lawful, Stands, Held}
 use Rattle.numbers.specs.Layouts.{Bounded}
-use Rattle.kinds.specs.Divisors.{Coprime, Gcd, euclid}
+use Rattle.kinds.specs.Divisors.{Coprime, euclid}
 use Rattle.kinds.specs.Fractions.{largest, over, Lowest, in_range, fraction_result, fractions, fraction_layout}
 use Rattle.kinds.specs.declared.fraction.Fraction.{Fraction}
 use Rattle.kinds.specs.Common.{reduced_unique, gcd_left, gcd_right, gcd_pos, left_pos, right_pos, lowest_terms, same_terms, euclid_is}
@@ -37,7 +37,7 @@ apart m n h k e =
     let equal = reduced_unique m.numerator m.denominator n.numerator n.denominator h.numerator_from h.denominator_from k.numerator_from k.denominator_from h.coprime k.coprime crossed in
     ap (λ (a : ℕ). of_parts a m.denominator) equal.0 ∙ ap (of_parts n.numerator) equal.1
 
-module _ (a b g : ℕ) (pa : 0 < a) (pb : 0 < b) (h : Gcd a b g) where
+module _ (a b g : ℕ) (pa : 0 < a) (pb : 0 < b) (h : IsGcd a b g) where
   pub reduced_stands : a / g ≤ largest → b / g ≤ largest → Stands fractions (over a b) (record { numerator = a / g; denominator = b / g })
   reduced_stands la lb = record {
     stored = record {
@@ -125,11 +125,11 @@ fractions_bounded = record {
 }
 
 -- numbers with the greatest common divisor 1
-pub coprime_decided : (a b g : ℕ) → Gcd a b g → Decides (g == 1) (Coprime a b)
+pub coprime_decided : (a b g : ℕ) → IsGcd a b g → Decides (g == 1) (Coprime a b)
 coprime_decided a b g h =
     Decides-like (g == 1)
-    (λ (e : g ≡ 1). λ d l r. let P : ℕ → Type 0 = λ n. d ∣ n in dvd-one.0 (subst P e (h.all d l r)))
-    (λ (u : Coprime a b). u g h.left h.right)
+    (λ (e : g ≡ 1). λ d l r. let P : ℕ → Type 0 = λ n. d ∣ n in dvd-one.0 (subst P e (h.2 d l r)))
+    (λ (u : Coprime a b). u g h.0 h.1)
     (Decides-eqb g 1)
 
 module _ (p q r s : ℕ) (hp : 0 < p) (hq : 0 < q) (hr : 0 < r) (hs : 0 < s) where

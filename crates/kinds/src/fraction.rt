@@ -1,11 +1,13 @@
 //! Positive fractions in lowest terms.
-ghost use Rattle.std.specs.Prelude.{◌<◌};
+ghost use Rattle.std.specs.Prelude.{◌<◌, refl};
 ghost use Rattle.numbers.specs.Numbers.{Answers};
-ghost use Rattle.kinds.specs.Fractions.{fractions, fraction_layout, over};
+ghost use Rattle.numbers.specs.Texts.{Written};
+ghost use Rattle.kinds.specs.Fractions.{fractions, fraction_layout, over, in_thousandths};
 ghost use Rattle.kinds.specs.Lowered.{fractions_lawful, fractions_bounded};
 
 use crate::divisor::gcd;
-use crate::page::put_thousandths;
+use crate::page::put_text;
+use itoa::Buffer;
 use numbers::fault::RangeFault;
 use numbers::kind::{Kind, ShortSlice};
 
@@ -44,6 +46,10 @@ impl Kind for Fraction {
 
     const WIDTH: usize = 8;
 
+    ghost MARK = { 2 };
+
+    ghost WIDTH = { 8 };
+
     ghost numbers = { fractions };
 
     ghost layout = { fraction_layout };
@@ -52,9 +58,9 @@ impl Kind for Fraction {
 
     ghost bounded = { fractions_bounded };
 
-    fn shape() -> (u8, usize) {
-        (Self::MARK, Self::WIDTH)
-    }
+    ghost mark_is = { refl };
+
+    ghost width_is = { refl };
 
     fn is_stored(self) -> bool {
         1 <= self.numerator
@@ -67,9 +73,7 @@ impl Kind for Fraction {
     fn sum(self, other: Fraction) -> Result<Fraction, RangeFault> {
         let first = self.numerator as u64 * other.denominator as u64;
         let second = other.numerator as u64 * self.denominator as u64;
-        let Some(top) = first.checked_add(second) else {
-            return Err(RangeFault);
-        };
+        let top = first.checked_add(second).ok_or(RangeFault)?;
         reduced(top, self.denominator as u64 * other.denominator as u64)
     }
 
@@ -87,32 +91,33 @@ impl Kind for Fraction {
     }
 
     fn read(bytes: &[u8]) -> Option<Fraction> {
-        let [a, b, c, d, e, f, g, h] = bytes else {
-            return None;
-        };
+        let (numerator, denominator) = bytes.split_first_chunk()?;
         let fraction = Fraction {
-            numerator: u32::from_be_bytes([*a, *b, *c, *d]),
-            denominator: u32::from_be_bytes([*e, *f, *g, *h]),
+            numerator: u32::from_be_bytes(*numerator),
+            denominator: u32::from_be_bytes(denominator.try_into().ok()?),
         };
-        if fraction.is_stored() {
-            Some(fraction)
-        } else {
-            None
-        }
+        fraction.is_stored().then_some(fraction)
     }
 
     fn text(self, out: &mut [u8]) -> Result<usize, ShortSlice> {
         let scaled = self.numerator as u64 * 1000;
         // A row without a denominator has the text of 0.
-        let thousandths = match scaled.checked_div(self.denominator as u64) {
-            Some(thousandths) => thousandths,
-            None => 0,
-        };
-        let mut nothing: [u8; 0] = [];
-        let needed = put_thousandths(&mut nothing, thousandths);
-        if out.len() < needed {
-            return Err(ShortSlice { needed });
-        }
-        Ok(put_thousandths(out, thousandths))
+        let thousandths = scaled.checked_div(self.denominator as u64).unwrap_or(0);
+        put_thousandths(out, thousandths)
     }
+}
+
+// Whole part, point, three digits. No format: its text goes to a heap or a writer, and this into the caller's slice.
+fn put_thousandths(out: &mut [u8], n: u64) -> Result<usize, ShortSlice>
+    ensures { Written (in_thousandths n) out.old out.new result }
+{
+    let mut whole = Buffer::new();
+    let tenth = b'0' + (n / 100 % 10) as u8;
+    let hundredth = b'0' + (n / 10 % 10) as u8;
+    let thousandth = b'0' + (n % 10) as u8;
+    put_text(
+        out,
+        whole.format(n / 1000),
+        &[b'.', tenth, hundredth, thousandth],
+    )
 }

@@ -1,8 +1,11 @@
 //! Weights: the larger of two for their sum, their sum for their product, their difference for their quotient.
+ghost use Rattle.std.specs.Prelude.{MatchOption, IsErr, refl};
+ghost use Rattle.numbers.specs.Numbers.{Answers};
 ghost use Rattle.kinds.specs.Weights.{weights, weight_layout};
 ghost use Rattle.kinds.specs.Weighed.{weights_lawful, weights_bounded};
 
-use crate::page::put_signed;
+use crate::page::put_text;
+use itoa::Buffer;
 use numbers::fault::RangeFault;
 use numbers::kind::{Kind, ShortSlice};
 
@@ -15,10 +18,24 @@ pub struct Weight {
     pub value: i64,
 }
 
+// The weight of a value, if it is a stored number. A value that lies outside an `i64` is none.
+fn within(value: Option<i64>) -> Result<Weight, RangeFault>
+    ensures { MatchOption value (IsErr result) (λ z. Answers weights z result) }
+{
+    value
+        .map(|value| Weight { value })
+        .filter(|weight| weight.is_stored())
+        .ok_or(RangeFault)
+}
+
 impl Kind for Weight {
     const MARK: u8 = 1;
 
     const WIDTH: usize = 8;
+
+    ghost MARK = { 1 };
+
+    ghost WIDTH = { 8 };
 
     ghost numbers = { weights };
 
@@ -28,66 +45,37 @@ impl Kind for Weight {
 
     ghost bounded = { weights_bounded };
 
-    fn shape() -> (u8, usize) {
-        (Self::MARK, Self::WIDTH)
-    }
+    ghost mark_is = { refl };
+
+    ghost width_is = { refl };
 
     fn is_stored(self) -> bool {
         -LIMIT <= self.value && self.value <= LIMIT
     }
 
     fn sum(self, other: Weight) -> Result<Weight, RangeFault> {
-        if other.value < self.value {
-            Ok(self)
-        } else {
-            Ok(other)
-        }
+        Ok(Weight {
+            value: self.value.max(other.value),
+        })
     }
 
     fn product(self, other: Weight) -> Result<Weight, RangeFault> {
-        let Some(value) = self.value.checked_add(other.value) else {
-            return Err(RangeFault);
-        };
-        let sum = Weight { value };
-        if sum.is_stored() {
-            Ok(sum)
-        } else {
-            Err(RangeFault)
-        }
+        within(self.value.checked_add(other.value))
     }
 
     fn quotient(self, other: Weight) -> Result<Weight, RangeFault> {
-        let Some(value) = self.value.checked_sub(other.value) else {
-            return Err(RangeFault);
-        };
-        let difference = Weight { value };
-        if difference.is_stored() {
-            Ok(difference)
-        } else {
-            Err(RangeFault)
-        }
+        within(self.value.checked_sub(other.value))
     }
 
     fn read(bytes: &[u8]) -> Option<Weight> {
-        let [a, b, c, d, e, f, g, h] = bytes else {
-            return None;
-        };
         let weight = Weight {
-            value: i64::from_be_bytes([*a, *b, *c, *d, *e, *f, *g, *h]),
+            value: i64::from_be_bytes(bytes.try_into().ok()?),
         };
-        if weight.is_stored() {
-            Some(weight)
-        } else {
-            None
-        }
+        weight.is_stored().then_some(weight)
     }
 
     fn text(self, out: &mut [u8]) -> Result<usize, ShortSlice> {
-        let mut nothing: [u8; 0] = [];
-        let needed = put_signed(&mut nothing, self.value);
-        if out.len() < needed {
-            return Err(ShortSlice { needed });
-        }
-        Ok(put_signed(out, self.value))
+        let mut digits = Buffer::new();
+        put_text(out, digits.format(self.value), b"")
     }
 }

@@ -1,5 +1,6 @@
 -- What an operation on stored numbers says of the exact values.
 use Rattle.std.proofs.Common.{◌≡◌, ℕ, Bool, true, false, List, length, Some, None, Ok, Err, Decides, Option, Result, sym, refl, ap, ◌∙◌, subst}
+use Rattle.std.specs.Bool.{then_some}
 use Rattle.std.proofs.lemmas.Bool.Decides.{not_from_Decides}
 use Rattle.numbers.specs.Numbers.{Numbers, Lawful, Stands, Held, Answers, Single, Results}
 use Rattle.numbers.specs.Layouts.{Layout, Reads}
@@ -32,10 +33,9 @@ module _ {N : Type 0} {K : Numbers N} (lawful : Lawful K) where
       go None e = e
       go (Some m) e = absurd (h (m, lawful.found x m e))
 
--- a row n was made from the bytes, and tested
-module _ {N : Type 0} (K : Numbers N) (L : Layout N) (bytes : List ℕ) (n : N) (made : n ≡ L.row bytes) (test : Bool) (tells : Decides test (K.stored n)) where
-  pub read_some : length bytes ≡ L.width → test ≡ true → Reads K L bytes (Some n)
-  read_some e t = record { whole = e; is = made; stored = tells.0 t }
-
-  pub read_none : test ≡ false → Reads K L bytes None
-  read_none t _ s = let P : N → Type 0 = λ m. K.stored m in not_from_Decides test tells t (subst P (sym made) s)
+-- a row that was made from the bytes, where it passes the test
+pub read_tested :
+    {N : Type 0} (K : Numbers N) (L : Layout N) (bytes : List ℕ) (n : N) → n ≡ L.row bytes → (test : Bool) → Decides test (K.stored n) →
+    length bytes ≡ L.width → Reads K L bytes (then_some test n)
+read_tested K L bytes n made true tells e = record { whole = e; is = made; stored = tells.0 refl }
+read_tested {N} K L bytes n made false tells e = λ _ s. not_from_Decides false tells refl (subst (λ (m : N). K.stored m) (sym made) s)

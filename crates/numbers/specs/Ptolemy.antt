@@ -5,6 +5,7 @@ use Rattle.numbers.specs.Numbers.{Numbers, Stands, Held}
 use Rattle.numbers.specs.declared.fault.Operation.{Operation}
 use Rattle.numbers.specs.declared.fault.Operation.TheVariants.{FirstProduct, SecondProduct, Sum, Quotient}
 use Rattle.numbers.specs.declared.fault.FlipFault.{FlipFault}
+use Rattle.numbers.specs.declared.ptolemy.Sides.{Sides}
 
 -- The answer to an operation that has this stored result, or none.
 abbrev pub answered : {N : Type 0} → Operation → Option N → Result N FlipFault
@@ -16,27 +17,27 @@ abbrev pub after : {N : Type 0} → Operation → Option N → Result N FlipFaul
 after operation (Some _) rest = rest
 after operation None rest = answered operation None
 
-module _ {N : Type 0} (K : Numbers N) (a b c g e : N) where
+module _ {N : Type 0} (K : Numbers N) (s : Sides N) where
   -- All five are stored numbers.
   pub record AllStored : Type 0 where
-    pub a_stored : K.stored a
-    pub b_stored : K.stored b
-    pub c_stored : K.stored c
-    pub g_stored : K.stored g
-    pub e_stored : K.stored e
+    pub a_stored : K.stored s.a
+    pub b_stored : K.stored s.b
+    pub c_stored : K.stored s.c
+    pub g_stored : K.stored s.g
+    pub e_stored : K.stored s.e
 
   -- The exact results of the four operations.
   abbrev pub first_product : K.exact.Exact
-  first_product = K.exact.product (K.value a) (K.value c)
+  first_product = K.exact.product (K.value s.a) (K.value s.c)
 
   abbrev pub second_product : K.exact.Exact
-  second_product = K.exact.product (K.value b) (K.value g)
+  second_product = K.exact.product (K.value s.b) (K.value s.g)
 
   abbrev pub both : K.exact.Exact
   both = K.exact.sum first_product second_product
 
   abbrev pub new : K.exact.Exact
-  new = flipped K.exact (K.value a) (K.value c) (K.value b) (K.value g) (K.value e)
+  new = flipped K.exact (K.value s.a) (K.value s.c) (K.value s.b) (K.value s.g) (K.value s.e)
 
   -- The operation is the first whose exact result no stored number has.
   abbrev pub Blocked : Operation → Type 0

@@ -1,6 +1,6 @@
 -- Numbers in bytes, one and many, and rows that are judged.
 use Rattle.std.specs.Prelude.{◌≡◌, ℕ, ◌*◌, ◌<◌, ◌≤◌, List, length, take, drop, Ok, Err, Result, ◌≢◌, slice_index, slice_index_or}
-use Rattle.std.specs.List.{AllByRecursion}
+use Rattle.std.specs.List.{All}
 use Rattle.numbers.specs.Numbers.{Numbers}
 use Rattle.numbers.specs.Layouts.{Layout, Row}
 use Rattle.numbers.specs.declared.read.ReadFault.{ReadFault}
@@ -37,8 +37,8 @@ module _ {N : Type 0} (K : Numbers N) (L : Layout N) where
 
 -- Each row is a stored number, or the first that is none.
 abbrev pub Judges : {N U : Type 0} → Numbers N → List N → Result U Unstored → Type 0
-Judges K rows (Ok _) = AllByRecursion K.stored rows
-Judges {N} K rows (Err f) = (f.index < length rows) × AllByRecursion K.stored (take f.index rows) × ((d : N) → K.stored (slice_index_or rows f.index d) → ⊥)
+Judges K rows (Ok _) = All K.stored rows
+Judges {N} K rows (Err f) = (f.index < length rows) × All K.stored (take f.index rows) × ((d : N) → K.stored (slice_index_or rows f.index d) → ⊥)
 
 -- The number by which a row that is no stored number is told. Its place is the index.
 abbrev pub unstored_number : Unstored → ℕ

@@ -30,7 +30,7 @@ pub struct CarryFault {
 }
 
 impl CarryFault {
-    /// The number by which the refusal is told; its place is the step.
+    /// The number by which the refusal is told, which is what is printed; its place is the step.
     pub fn number(self) -> u8
         ensures { result ≡ carry_fault_number self }
     {
@@ -38,7 +38,7 @@ impl CarryFault {
     }
 }
 
-/// A fault, with the place where it befell.
+/// A fault, with the place where it befell. `From` takes one value, so the two go through `?` as one.
 #[derive(Clone, Copy)]
 pub struct Placed<P, F> {
     pub place: P,
@@ -49,10 +49,7 @@ pub struct Placed<P, F> {
 pub fn at<T, P: Copy, F>(place: P, answer: Result<T, F>) -> Result<T, Placed<P, F>>
     ensures { result ≡ with_place place answer }
 {
-    match answer {
-        Ok(value) => Ok(value),
-        Err(fault) => Err(Placed { place, fault }),
-    }
+    answer.map_err(|fault| Placed { place, fault })
 }
 
 impl From<Placed<Operation, RangeFault>> for FlipFault {

@@ -11,7 +11,7 @@ pub struct Unstored {
 }
 
 impl Unstored {
-    /// The number by which the refusal is told; its place is the index.
+    /// The number by which the refusal is told, which is what is printed; its place is the index.
     pub fn number(self) -> u8
         ensures { result ≡ unstored_number self }
     {
@@ -23,10 +23,7 @@ impl Unstored {
 pub fn judge<K: Kind>(rows: &[K]) -> Result<(), Unstored>
     ensures { Judges K.numbers rows.now result }
 {
-    for (index, row) in rows.iter().enumerate() {
-        if !row.is_stored() {
-            return Err(Unstored { index });
-        }
-    }
-    Ok(())
+    rows.iter()
+        .position(|row| !row.is_stored())
+        .map_or(Ok(()), |index| Err(Unstored { index }))
 }

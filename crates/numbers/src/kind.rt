@@ -1,5 +1,5 @@
 //! What a kind of numbers is.
-ghost use Rattle.std.specs.Prelude.{◌≡◌, Decides};
+ghost use Rattle.std.specs.Prelude.{◌≡◌, ℕ, Decides};
 ghost use Rattle.numbers.specs.Numbers.{Numbers, Lawful, Sums, Multiplies, Divides};
 ghost use Rattle.numbers.specs.Layouts.{Layout, Bounded, Reads};
 ghost use Rattle.numbers.specs.Texts.{Written};
@@ -22,13 +22,14 @@ pub trait Kind: Copy {
     /// How many bytes a number has there.
     const WIDTH: usize;
 
+    // The same two in the laws, which tie them to the layout.
+    ghost MARK: { ℕ };
+
+    ghost WIDTH: { ℕ };
+
     ghost numbers: { Numbers Self };
 
     ghost layout: { Layout Self };
-
-    /// The mark and the width, as the layout has them.
-    fn shape() -> (u8, usize)
-        ensures { result ≡ (layout.mark, layout.width) };
 
     /// Whether the row is a stored number.
     fn is_stored(self) -> bool
@@ -47,11 +48,16 @@ pub trait Kind: Copy {
     fn read(bytes: &[u8]) -> Option<Self>
         ensures { Reads numbers layout bytes.now result };
 
-    /// Writes the text to the front of `out`, and tells how many bytes it has.
+    /// Writes the text to the front of `out`, and tells how many bytes it has. No `Display`: the text is fixed byte by byte, and
+    /// needs no heap.
     fn text(self, out: &mut [u8]) -> Result<usize, ShortSlice>
         ensures { Written (layout.text self) out.old out.new result };
 
     ghost lawful: { Lawful numbers };
 
     ghost bounded: { Bounded numbers layout };
+
+    ghost mark_is: { MARK ≡ layout.mark };
+
+    ghost width_is: { WIDTH ≡ layout.width };
 }

@@ -6,22 +6,33 @@ ghost use Rattle.numbers.specs.Ptolemy.{AllStored, Flips, flip_result};
 use crate::fault::{CarryFault, FlipFault, Operation, at};
 use crate::kind::Kind;
 
-/// The stored number of (a·c + b·g) ÷ e, or the first operation that has no stored result.
-pub fn new_value<K: Kind>(a: K, b: K, c: K, g: K, e: K) -> Result<K, FlipFault>
-    ensures flips { AllStored K.numbers a b c g e → Flips K.numbers a b c g e result }
-    ensures result { AllStored K.numbers a b c g e → result ≡ flip_result K.numbers a b c g e }
-{
-    let first = at(Operation::FirstProduct, a.product(c))?;
-    let second = at(Operation::SecondProduct, b.product(g))?;
-    let sum = at(Operation::Sum, first.sum(second))?;
-    let value = at(Operation::Quotient, sum.quotient(e))?;
-    Ok(value)
+/// The rows around an edge. Its darts d and p begin the triangles d, a, b and p, c, g: these are the rows of the four sides
+/// a, b, c and g, and that of the edge itself, e.
+#[derive(Clone, Copy, PartialEq, Eq, Debug)]
+pub struct Sides<K> {
+    pub a: K,
+    pub b: K,
+    pub c: K,
+    pub g: K,
+    pub e: K,
 }
 
-/// The same at a step of a walk, which a refusal tells.
-pub fn value_at_step<K: Kind>(step: usize, a: K, b: K, c: K, g: K, e: K) -> Result<K, CarryFault>
-    ensures { AllStored K.numbers a b c g e → result ≡ at_step step (flip_result K.numbers a b c g e) }
-{
-    let value = at(step, new_value(a, b, c, g, e))?;
-    Ok(value)
+impl<K: Kind> Sides<K> {
+    /// The stored number of (a·c + b·g) ÷ e, or the first operation that has no stored result.
+    pub fn flipped(self) -> Result<K, FlipFault>
+        ensures flips { AllStored K.numbers self → Flips K.numbers self result }
+        ensures result { AllStored K.numbers self → result ≡ flip_result K.numbers self }
+    {
+        let first = at(Operation::FirstProduct, self.a.product(self.c))?;
+        let second = at(Operation::SecondProduct, self.b.product(self.g))?;
+        let sum = at(Operation::Sum, first.sum(second))?;
+        Ok(at(Operation::Quotient, sum.quotient(self.e))?)
+    }
+
+    /// The same at a step of a walk, which a refusal tells.
+    pub fn flipped_at(self, step: usize) -> Result<K, CarryFault>
+        ensures { AllStored K.numbers self → result ≡ at_step step (flip_result K.numbers self) }
+    {
+        Ok(at(step, self.flipped())?)
+    }
 }

@@ -13,7 +13,7 @@ pub enum ReadFault {
 }
 
 impl ReadFault {
-    /// The number by which the refusal is told.
+    /// The number by which the refusal is told, which is what is printed; the enum says which it is.
     pub fn number(self) -> u8
         ensures { result ≡ read_fault_number self }
     {
@@ -40,7 +40,7 @@ pub enum MarkedFault {
 }
 
 impl MarkedFault {
-    /// The number by which the refusal is told.
+    /// The number by which the refusal is told, which is what is printed; the enum says which it is.
     pub fn number(self) -> u8
         ensures { result ≡ marked_fault_number self }
     {
@@ -52,6 +52,7 @@ impl MarkedFault {
     }
 }
 
+// By hand: a clause says which fault a `?` makes, and a derive has none.
 impl From<RunFault> for MarkedFault {
     ghost from_gives = { λ f r. r ≡ Run f };
 
@@ -60,41 +61,31 @@ impl From<RunFault> for MarkedFault {
     }
 }
 
-/// Whether a mark is that of the kind.
+/// Whether a mark is that of the kind. The mark is a byte, since kinds are open: each has its own.
 pub fn is_marked<K: Kind>(mark: u8) -> bool
     ensures { Decides result (mark ≡ K.layout.mark) }
 {
-    let (own, _) = K::shape();
-    mark == own
+    mark == K::MARK
 }
 
 /// The number at the front of the bytes.
 pub fn read_number<K: Kind>(bytes: &[u8]) -> Result<K, ReadFault>
     ensures { ReadsFront K.numbers K.layout bytes.now result }
 {
-    let (_, width) = K::shape();
-    if bytes.len() < width {
+    if bytes.len() < K::WIDTH {
         return Err(ReadFault::Short);
     }
-    let (front, _) = bytes.split_at(width);
-    match K::read(front) {
-        Some(number) => Ok(number),
-        None => Err(ReadFault::NotStored),
-    }
+    K::read(&bytes[..K::WIDTH]).ok_or(ReadFault::NotStored)
 }
 
 /// Reads a number into each row, one after the other. The rows from the first that is refused on stay as they were.
 pub fn read_run<K: Kind>(bytes: &[u8], rows: &mut [K]) -> Result<(), RunFault>
     ensures { ReadsRun K.numbers K.layout bytes.now rows.old rows.new result }
 {
-    let (_, width) = K::shape();
     let mut rest = bytes;
     for (index, row) in rows.iter_mut().enumerate() {
-        match read_number(rest) {
-            Ok(number) => *row = number,
-            Err(fault) => return Err(RunFault { index, fault }),
-        }
-        rest = &rest[width..];
+        *row = read_number(rest).map_err(|fault| RunFault { index, fault })?;
+        rest = &rest[K::WIDTH..];
     }
     Ok(())
 }
@@ -103,12 +94,9 @@ pub fn read_run<K: Kind>(bytes: &[u8], rows: &mut [K]) -> Result<(), RunFault>
 pub fn read_marked<K: Kind>(bytes: &[u8], rows: &mut [K]) -> Result<(), MarkedFault>
     ensures { ReadsMarked K.numbers K.layout bytes.now rows.old rows.new result }
 {
-    let [mark, run @ ..] = bytes else {
-        return Err(MarkedFault::NoMark);
-    };
+    let (mark, run) = bytes.split_first().ok_or(MarkedFault::NoMark)?;
     if !is_marked::<K>(*mark) {
         return Err(MarkedFault::OtherMark);
     }
-    read_run(run, rows)?;
-    Ok(())
+    Ok(read_run(run, rows)?)
 }

@@ -1,7 +1,8 @@
+use crate::common::fraction;
 use kinds::fraction::Fraction;
 use kinds::weight::Weight;
 use numbers::fault::{CarryFault, FlipFault, Operation, RangeFault};
-use numbers::ptolemy::{new_value, value_at_step};
+use numbers::ptolemy::Sides;
 
 // The values a, b, c, g, e, and what the flip gives.
 const GRANTED: [([(u32, u32); 5], (u32, u32)); 4] = [
@@ -38,22 +39,9 @@ const REFUSED: [([(u32, u32); 5], Operation); 5] = [
     ),
 ];
 
-fn fraction(parts: (u32, u32)) -> Fraction {
-    Fraction {
-        numerator: parts.0,
-        denominator: parts.1,
-    }
-}
-
 fn flipped(parts: [(u32, u32); 5]) -> Result<Fraction, FlipFault> {
-    let [a, b, c, g, e] = parts;
-    new_value(
-        fraction(a),
-        fraction(b),
-        fraction(c),
-        fraction(g),
-        fraction(e),
-    )
+    let [a, b, c, g, e] = parts.map(fraction);
+    Sides { a, b, c, g, e }.flipped()
 }
 
 #[test]
@@ -76,7 +64,14 @@ fn weights(rt: HostRuntime) {
     let one = Weight { value: 1 };
     let two = Weight { value: 2 };
     let three = Weight { value: 3 };
-    assert_eq!(rt; new_value(one, two, one, two, three), Ok(one));
+    let sides = Sides {
+        a: one,
+        b: two,
+        c: one,
+        g: two,
+        e: three,
+    };
+    assert_eq!(rt; sides.flipped(), Ok(one));
 }
 
 // The number's fault stands whole inside that of the flip, and that inside the carry's.
@@ -91,6 +86,13 @@ fn steps(rt: HostRuntime) {
             fault: RangeFault,
         },
     };
-    assert_eq!(rt; value_at_step(3, most, one, most, one, one), Err(fault));
+    let sides = Sides {
+        a: most,
+        b: one,
+        c: most,
+        g: one,
+        e: one,
+    };
+    assert_eq!(rt; sides.flipped_at(3), Err(fault));
     assert_eq!(rt; fault.number(), 18);
 }

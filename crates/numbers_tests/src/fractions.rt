@@ -1,3 +1,4 @@
+use crate::common::fraction;
 use kinds::fraction::Fraction;
 use numbers::fault::RangeFault;
 use numbers::kind::Kind;
@@ -62,18 +63,8 @@ const WORKED: [(
     ),
 ];
 
-fn fraction(parts: (u32, u32)) -> Fraction {
-    Fraction {
-        numerator: parts.0,
-        denominator: parts.1,
-    }
-}
-
 fn expected(parts: Option<(u32, u32)>) -> Result<Fraction, RangeFault> {
-    match parts {
-        Some(parts) => Ok(fraction(parts)),
-        None => Err(RangeFault),
-    }
+    parts.map(fraction).ok_or(RangeFault)
 }
 
 #[test]

@@ -1,3 +1,4 @@
+use crate::common::fraction;
 use kinds::fraction::Fraction;
 use kinds::weight::Weight;
 use numbers::judge::{Unstored, judge};
@@ -24,20 +25,10 @@ const WEIGHTS: [([u8; 8], Option<i64>); 7] = [
     ([0, 4, 0, 0, 0, 0, 0, 0], None),
 ];
 
-fn fraction(numerator: u32, denominator: u32) -> Fraction {
-    Fraction {
-        numerator,
-        denominator,
-    }
-}
-
 #[test]
 fn fractions(rt: HostRuntime) {
     for (bytes, parts) in FRACTIONS {
-        let expected = match parts {
-            Some((numerator, denominator)) => Ok(fraction(numerator, denominator)),
-            None => Err(ReadFault::NotStored),
-        };
+        let expected = parts.map(fraction).ok_or(ReadFault::NotStored);
         assert_eq!(rt; read_number::<Fraction>(&bytes), expected);
         assert_eq!(rt; read_number::<Fraction>(&bytes[1..]), Err(ReadFault::Short));
     }
@@ -46,10 +37,9 @@ fn fractions(rt: HostRuntime) {
 #[test]
 fn weights(rt: HostRuntime) {
     for (bytes, value) in WEIGHTS {
-        let expected = match value {
-            Some(value) => Ok(Weight { value }),
-            None => Err(ReadFault::NotStored),
-        };
+        let expected = value
+            .map(|value| Weight { value })
+            .ok_or(ReadFault::NotStored);
         assert_eq!(rt; read_number::<Weight>(&bytes), expected);
     }
 }
@@ -57,15 +47,15 @@ fn weights(rt: HostRuntime) {
 // A mark and two numbers, of which the second may be none.
 #[test]
 fn granted_run(rt: HostRuntime) {
-    let mut rows = [fraction(9, 9), fraction(9, 9)];
+    let mut rows = [fraction((9, 9)), fraction((9, 9))];
     let bytes = [2, 0, 0, 0, 1, 0, 0, 0, 2, 0, 0, 0, 3, 0, 0, 0, 4];
     assert_eq!(rt; read_marked(&bytes, &mut rows), Ok(()));
-    assert!(rt; rows == [fraction(1, 2), fraction(3, 4)]);
+    assert!(rt; rows == [fraction((1, 2)), fraction((3, 4))]);
 }
 
 #[test]
 fn refused_run(rt: HostRuntime) {
-    let mut rows = [fraction(9, 9), fraction(9, 9)];
+    let mut rows = [fraction((9, 9)), fraction((9, 9))];
     let bytes = [2, 0, 0, 0, 5, 0, 0, 0, 1, 0, 0, 0, 3, 0, 0, 0, 6];
     let fault = RunFault {
         index: 1,
@@ -75,12 +65,12 @@ fn refused_run(rt: HostRuntime) {
         read_marked(&bytes, &mut rows),
         Err(MarkedFault::Run(fault))
     );
-    assert!(rt; rows == [fraction(5, 1), fraction(9, 9)]);
+    assert!(rt; rows == [fraction((5, 1)), fraction((9, 9))]);
 }
 
 #[test]
 fn marks(rt: HostRuntime) {
-    let mut rows = [fraction(9, 9)];
+    let mut rows = [fraction((9, 9))];
     let short = RunFault {
         index: 0,
         fault: ReadFault::Short,
@@ -98,9 +88,9 @@ fn marks(rt: HostRuntime) {
 
 #[test]
 fn judged(rt: HostRuntime) {
-    assert_eq!(rt; judge(&[fraction(1, 2), fraction(2, 3)]), Ok(()));
+    assert_eq!(rt; judge(&[fraction((1, 2)), fraction((2, 3))]), Ok(()));
     assert_eq!(rt;
-        judge(&[fraction(1, 2), fraction(2, 4), fraction(0, 0)]),
+        judge(&[fraction((1, 2)), fraction((2, 4)), fraction((0, 0))]),
         Err(Unstored { index: 1 })
     );
 }

@@ -1,5 +1,5 @@
 use kinds::fraction::Fraction;
-use numbers::ptolemy::new_value;
+use numbers::ptolemy::Sides;
 use std::test::Fail;
 use std::time::Instant;
 
@@ -28,8 +28,14 @@ fn flips(rt: HostRuntime) -> Result<(), Fail> {
     let start = Instant::now(&rt)?;
     let mut total: u64 = 0;
     for i in 0..FLIPS {
-        let value = new_value(over_prime(663608941 + i), over_prime(1 + i), one, one, one)?;
-        total = total.wrapping_add(value.numerator as u64);
+        let sides = Sides {
+            a: over_prime(663608941 + i),
+            b: over_prime(1 + i),
+            c: one,
+            g: one,
+            e: one,
+        };
+        total = total.wrapping_add(sides.flipped()?.numerator as u64);
     }
     let taken = start.elapsed(&rt)?;
     assert_eq!(rt; total, TOTAL);

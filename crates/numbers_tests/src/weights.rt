@@ -45,10 +45,7 @@ fn weight(value: i64) -> Weight {
 }
 
 fn expected(value: Option<i64>) -> Result<Weight, RangeFault> {
-    match value {
-        Some(value) => Ok(Weight { value }),
-        None => Err(RangeFault),
-    }
+    value.map(weight).ok_or(RangeFault)
 }
 
 #[test]

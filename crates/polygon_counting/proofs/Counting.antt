@@ -1,8 +1,8 @@
 -- Every chord of a fully cut polygon has a triangle on each of its sides, by counting diagonals: a stretch of corners from i to j holds
 -- at most j - i - 2 diagonals besides (i, j), and where it holds so many, a corner between them parts it into two stretches that do too.
-use Rattle.std.proofs.Common.{◌≡◌, ℕ, zero, suc, ◌+◌, ◌-◌, ◌<◌, ◌≤◌, Bool, true, false, not, ◌&&◌, eqb, leb, ◌⊎◌, sym, refl, ap, ◌∙◌, subst, subst₂, inl, inr, arith}
+use Rattle.std.proofs.Common.{◌≡◌, ℕ, zero, suc, ◌+◌, ◌-◌, ◌<◌, ◌≤◌, Bool, true, false, not, ◌&&◌, eqb, leb, ◌⊎◌, refl, ◌∙◌, subst, subst₂, inl, inr, arith}
 use Rattle.std.proofs.lemmas.Bool.Decides.{nat_tests}
-use Rattle.std.proofs.lemmas.Bool.{cases_lt, cases_eq}
+use Rattle.std.proofs.lemmas.Bool.{cases_lt}
 
 -- what makes the m diagonals from lo k to hi k admissible in the polygon of n corners: each joins two corners that are no neighbours,
 -- the smaller first; no two are one; no two cross
@@ -37,45 +37,12 @@ abbrev exact : (i j a b : ℕ) → Bool
 exact i j a b = eqb a i && eqb b j
 
 exact_is : (i j a b : ℕ) → ((bit (exact i j a b) ≡ 1) × (a ≡ i) × (b ≡ j)) ⊎ ((bit (exact i j a b) ≡ 0) × (a ≡ i → b ≡ j → ⊥))
-exact_is i j a b =
-    elim (cases_eq a i) [
-      | inl p ↦ elim (cases_eq b j) [
-        | inl q ↦ inl (grind (arith, nat_tests), p, q)
-        | inr q ↦ inr (grind (arith, nat_tests), λ _ e. q e)
-      ]
-      | inr p ↦ inr (grind (arith, nat_tests), λ e _. p e)
-    ]
-
-within_is : (i j a b : ℕ) → ((bit (within i j a b) ≡ 1) × (i ≤ a) × (b ≤ j) × ((i < a) ⊎ (b < j))) ⊎ (bit (within i j a b) ≡ 0)
-within_is i j a b =
-    elim (cases_lt a i) [
-      | inl p ↦ inr (grind (arith, nat_tests))
-      | inr p ↦ elim (cases_lt j b) [
-        | inl q ↦ inr (grind (arith, nat_tests))
-        | inr q ↦ elim (cases_lt i a) [
-          | inl r ↦ inl (grind (arith, nat_tests), p, q, inl r)
-          | inr r ↦ elim (cases_lt b j) [
-            | inl s ↦ inl (grind (arith, nat_tests), p, q, inr s)
-            | inr s ↦ inr (grind (arith, nat_tests))
-          ]
-        ]
-      ]
-    ]
-
-in_bit : (i j a b : ℕ) → i ≤ a → b ≤ j → bit (within i j a b) + bit (exact i j a b) ≡ 1
-in_bit i j a b h k = grind (arith, nat_tests)
+exact_is i j a b = grind (arith, nat_tests)
 
 -- if (a, b) lies within [i, j] it lies in [i, w] or in [w, j]
 split_bit : (i w j a b : ℕ) → (i ≤ a → b ≤ j → ((i < a) ⊎ (b < j)) → (b ≤ w) ⊎ (w ≤ a)) →
     bit (within i j a b) ≤ (bit (within i w a b) + bit (exact i w a b)) + (bit (within w j a b) + bit (exact w j a b))
-split_bit i w j a b f =
-    elim (within_is i j a b) [
-      | inl c ↦ elim (f c.1 c.2 c.3) [
-        | inl h ↦ (let e = in_bit i w a b c.1 h in omega (arith, c.0))
-        | inr h ↦ (let e = in_bit w j a b h c.2 in omega (arith, c.0))
-      ]
-      | inr z ↦ omega arith
-    ]
+split_bit i w j a b f = grind (arith, nat_tests)
 
 narrow_bit : (i j a b : ℕ) → a + 2 ≤ b → j ≤ i + 2 → bit (within i j a b) ≡ 0
 narrow_bit i j a b h k = grind (arith, nat_tests)
@@ -106,47 +73,23 @@ module _ (lo hi : ℕ → ℕ) where
   held_none : (i j m : ℕ) → ((k : ℕ) → k < m → lo k + 2 ≤ hi k) → j ≤ i + 2 → held lo hi i j m ≡ 0
   unfolding held
   held_none i j zero f h = refl
-  held_none i j (suc m) f h =
-      add (held_none i j m (λ k l. f k (omega arith)) h) (narrow_bit i j (lo m) (hi m) (f m (omega arith)) h)
-    where
-      add : {x y : ℕ} → x ≡ 0 → y ≡ 0 → x + y ≡ 0
-      add p q = omega arith
+  held_none i j (suc m) f h = omega (arith, held_none i j m (λ k l. f k (omega arith)) h, narrow_bit i j (lo m) (hi m) (f m (omega arith)) h)
 
   held_all : (n m : ℕ) → ((k : ℕ) → k < m → hi k < n) → ((k : ℕ) → k < m → lo k ≡ 0 → hi k + 1 ≡ n → ⊥) →
       held lo hi 0 (n - 1) m ≡ m
   unfolding held
   held_all n zero f g = refl
   held_all n (suc m) f g =
-      add (held_all n m (λ k l. f k (omega arith)) (λ k l. g k (omega arith))) (all_bit n (lo m) (hi m) (f m (omega arith)) (g m (omega arith)))
-    where
-      add : {x y : ℕ} → x ≡ m → y ≡ 1 → x + y ≡ suc m
-      add p q = omega arith
+      omega (arith, held_all n m (λ k l. f k (omega arith)) (λ k l. g k (omega arith)), all_bit n (lo m) (hi m) (f m (omega arith)) (g m (omega arith)))
 
   copies_is : (i j m : ℕ) → ((k l : ℕ) → k < m → l < m → lo k ≡ lo l → hi k ≡ hi l → k ≡ l) →
       ((copies lo hi i j m ≡ 0) × ((k : ℕ) → k < m → lo k ≡ i → hi k ≡ j → ⊥)) ⊎ ((copies lo hi i j m ≡ 1) × Diag m lo hi i j)
   unfolding copies
   copies_is i j zero f = inl (refl, λ k h _ _. omega arith)
-  copies_is i j (suc m) f = join (copies_is i j m (λ k l p q. f k l (omega arith) (omega arith))) (exact_is i j (lo m) (hi m))
-    where
-      M : ℕ
-      M = copies lo hi i j m
-
-      O : ℕ
-      O = bit (exact i j (lo m) (hi m))
-
-      join : ((M ≡ 0) × ((k : ℕ) → k < m → lo k ≡ i → hi k ≡ j → ⊥)) ⊎ ((M ≡ 1) × Diag m lo hi i j) →
-          ((O ≡ 1) × (lo m ≡ i) × (hi m ≡ j)) ⊎ ((O ≡ 0) × (lo m ≡ i → hi m ≡ j → ⊥)) →
-          ((M + O ≡ 0) × ((k : ℕ) → k < suc m → lo k ≡ i → hi k ≡ j → ⊥)) ⊎ ((M + O ≡ 1) × Diag (suc m) lo hi i j)
-      join (inl a) (inl b) = inr (omega (arith, a.0, b.0), (m, omega arith, b.1, b.2))
-      join (inl a) (inr b) = inl (omega (arith, a.0, b.0), λ k h p q. elim (cases_lt k m) [ inl l ↦ a.1 k l p q | inr l ↦ last k h l p q ])
-        where
-          last : (k : ℕ) → k < suc m → m ≤ k → lo k ≡ i → hi k ≡ j → ⊥
-          last k h l p q = let e : m ≡ k = omega arith in b.1 (ap lo e ∙ p) (ap hi e ∙ q)
-      join (inr a) (inl b) =
-          let D = a.1 in
-          let e = f D.0 m (omega arith) (omega arith) (D.2 ∙ sym b.1) (D.3 ∙ sym b.2) in
-          absurd (omega (arith, D.1))
-      join (inr a) (inr b) = inr (omega (arith, a.0, b.0), (a.1.0, omega (arith, a.1.1), a.1.2, a.1.3))
+  copies_is i j (suc m) f =
+      let a = copies_is i j m (λ k l p q. f k l (omega arith) (omega arith)) in
+      let b = exact_is i j (lo m) (hi m) in
+      grind arith
 
 -- what a polygon's corners and diagonals are like, from here on
 module _ (n m : ℕ) (lo hi : ℕ → ℕ) (ad : Admissible n m lo hi) where
@@ -160,11 +103,8 @@ module _ (n m : ℕ) (lo hi : ℕ → ℕ) (ad : Admissible n m lo hi) where
   unfolding M
   M_is i j = copies_is lo hi i j m ad.distinct
 
-  M_side : (i : ℕ) → M i (i + 1) ≡ 0
-  M_side i = elim (M_is i (i + 1)) [ inl a ↦ a.0 | inr a ↦ absurd (let D = a.1 in let h = ad.apart D.0 D.1 in omega (arith, D.2, D.3)) ]
-
   M_most : (i j : ℕ) → M i j ≤ 1
-  M_most i j = elim (M_is i j) [ inl a ↦ omega (arith, a.0) | inr a ↦ omega (arith, a.0) ]
+  M_most i j = let a = M_is i j in grind arith
 
   -- w is the largest corner below i + 2 + s that is joined to i from above
   record Top (i s : ℕ) : Type 0 where
@@ -219,19 +159,9 @@ module _ (n m : ℕ) (lo hi : ℕ → ℕ) (ad : Admissible n m lo hi) where
       below = omega (arith, t.high)
 
       parts : (k : ℕ) → k < m → i ≤ lo k → hi k ≤ j → ((i < lo k) ⊎ (hi k < j)) → (hi k ≤ t.w) ⊎ (t.w ≤ lo k)
-      parts k l a b o = elim (cases_lt t.w (hi k)) [
-        | inr p ↦ inl p
-        | inl p ↦ elim (cases_lt (lo k) t.w) [
-          | inr q ↦ inr q
-          | inl q ↦ elim (cases_lt i (lo k)) [
-            | inl r ↦ absurd (elim t.chord [
-              | inl e ↦ omega arith
-              | inr D ↦ ad.uncrossed D.0 k D.1 l (omega (arith, D.2)) (omega (arith, D.3)) (omega (arith, D.3))
-            ])
-            | inr r ↦ absurd (t.beyond (hi k) k p (omega (arith, is)) l (omega arith) refl)
-          ]
-        ]
-      ]
+      parts k l a b o =
+          let x = t.beyond (hi k) k in
+          elim t.chord [ inl e ↦ grind arith | inr D ↦ (let y = ad.uncrossed D.0 k D.1 l in grind arith) ]
 
   C_none : (i j : ℕ) → j ≤ i + 2 → C i j ≡ 0
   unfolding C
@@ -242,16 +172,13 @@ module _ (n m : ℕ) (lo hi : ℕ → ℕ) (ad : Admissible n m lo hi) where
   C_split i j p = held_split lo hi i p.w j m p.parts
 
   M_next : (i j : ℕ) → i < j → j < i + 2 → M i j ≡ 0
-  M_next i j h k = let e : j ≡ i + 1 = omega arith in ap (M i) e ∙ M_side i
+  M_next i j h k = elim (M_is i j) [ inl a ↦ a.0 | inr a ↦ (let D = a.1 in let e = ad.apart D.0 D.1 in absurd (omega (arith, D.2, D.3))) ]
 
   half : (i j : ℕ) → i < j → (i + 2 ≤ j → C i j + i + 2 ≤ j) → (C i j + M i j) + i + 1 ≤ j
-  half i j h f = elim (cases_lt j (i + 2)) [
-    | inl l ↦ omega (arith, C_none i j (omega arith), M_next i j h l)
-    | inr l ↦ (let b = f l in omega (arith, M_most i j))
-  ]
+  half i j h f = let a = C_none i j in let b = M_next i j h in let c = M_most i j in grind arith
 
   bound : (s i j : ℕ) → j ≤ i + s → i + 2 ≤ j → C i j + i + 2 ≤ j
-  bound zero i j h k = absurd (omega arith)
+  bound zero i j h k = omega arith
   bound (suc s) i j h k =
       let p = split i j k in
       let a = half i p.w p.low (λ l. bound s i p.w (omega (arith, p.high)) l) in
@@ -302,13 +229,7 @@ module _ (n m : ℕ) (lo hi : ℕ → ℕ) (ad : Admissible n m lo hi) where
       b = whole p.w j p.high
 
       right : Chord m lo hi p.w j
-      right = elim (cases_lt j (p.w + 2)) [
-        | inl l ↦ inl (omega (arith, p.high))
-        | inr l ↦ elim (M_is p.w j) [
-          | inr D ↦ inr D.1
-          | inl z ↦ absurd (omega (arith, a, b, c, z.0, bound j p.w j (omega arith) l))
-        ]
-      ]
+      right = elim (M_is p.w j) [ inl z ↦ (let e = bound j p.w j in let g = p.high in inl (grind (arith, a, b, c))) | inr D ↦ inr D.1 ]
 
   -- the triangle on the outer side of (i, j): its third corner w is beyond j or before i
   pub data Outer (i j : ℕ) : Type 0 where
@@ -316,12 +237,8 @@ module _ (n m : ℕ) (lo hi : ℕ → ℕ) (ad : Admissible n m lo hi) where
     before : (w : ℕ) → w < i → Chord m lo hi w i → Base n m lo hi w j → Outer i j
 
   place : (p q i j : ℕ) (I : Inner p q) → i < j → p ≤ i → j ≤ q → Chord m lo hi i j → ((p < i) ⊎ (j < q)) → (j ≤ I.w) ⊎ (I.w ≤ i)
-  place p q i j I h a b (inl e) o = elim (cases_lt i I.w) [ inl l ↦ inl (omega arith) | inr l ↦ inr l ]
-  place p q i j I h a b (inr D) o =
-      elim (I.parts D.0 D.1 (omega (arith, D.2)) (omega (arith, D.3)) (elim o [ inl l ↦ inl (omega (arith, D.2)) | inr l ↦ inr (omega (arith, D.3)) ])) [
-        | inl l ↦ inl (omega (arith, D.3))
-        | inr l ↦ inr (omega (arith, D.2))
-      ]
+  place p q i j I h a b (inl e) o = grind arith
+  place p q i j I h a b (inr D) o = let s = I.parts D.0 D.1 in grind arith
 
   to_base : (p q i j : ℕ) → p ≤ i → i < j → j ≤ q → ((p < i) ⊎ (j < q)) → Chord m lo hi p q → Base n m lo hi p q
   to_base p q i j a h b o (inl e) = absurd (omega arith)
@@ -376,13 +293,7 @@ module _ (n m : ℕ) (lo hi : ℕ → ℕ) (ad : Admissible n m lo hi) where
     last_inner = inner 0 (n - 1) (omega (arith, full)) start
 
     diag_proper : (k : ℕ) → k < m → (0 < lo k) ⊎ (hi k < n - 1)
-    diag_proper k h = elim (cases_lt 0 (lo k)) [
-      | inl l ↦ inl l
-      | inr l ↦ elim (cases_lt (hi k) (n - 1)) [
-        | inl y ↦ inr y
-        | inr y ↦ absurd (ad.open_side k h (omega arith) (omega (arith, ad.corner k h, full)))
-      ]
-    ]
+    diag_proper k h = let a = ad.open_side k h in let b = ad.corner k h in grind arith
 
     pub diag_around : (k : ℕ) → k < m → Outer (lo k) (hi k) × Tight (lo k) (hi k)
     diag_around k h = around (lo k) (hi k) (omega (arith, ad.apart k h)) (ad.corner k h) (inr (k, h, refl, refl)) (diag_proper k h)

@@ -1,24 +1,23 @@
 -- A polygon with three diagonals fewer than corners, no two of which cross, has a lawful table.
-use Rattle.std.proofs.Common.{◌≡◌, ℕ, ◌+◌, ◌-◌, ◌*◌, ◌/◌, ◌%◌, ◌<◌, ◌≤◌, true, ◌&&◌, eqb, ltb, ◌⊎◌, List, length, is_some, Some, None, Option, sym, refl, ap, ◌∙◌, subst, ap₂, subst₂, inl, inr, arith}
-use Rattle.std.proofs.lemmas.Bool.{cases_lt, cases_eq, cond-true, cond-false, lt-ltb, le-ltb, eq-eqb, eqb-true, and_parts, and_from, or_cases, or_left, or_right}
+use Rattle.std.proofs.Common.{◌≡◌, ℕ, ◌+◌, ◌-◌, ◌*◌, ◌/◌, ◌%◌, ◌<◌, ◌≤◌, true, ◌&&◌, ◌⊎◌, List, length, is_some, Some, None, Option, sym, refl, ap, ◌∙◌, subst, subst₂, inl, inr, arith}
+use Rattle.std.proofs.lemmas.Bool.{cases_lt, cases_eq, and_parts}
+use Rattle.std.proofs.lemmas.Bool.Decides.{nat_tests}
+use Rattle.std.proofs.lemmas.List.Quantifiers.{position-Some}
+use Rattle.std.specs.List.{position}
+use Rattle.std.specs.Option.{option_and_then}
+use Rattle.std.proofs.lemmas.Option.{same_Some, option_and_then_some, some_pair_parts}
 use Rattle.polygon_counting.specs.declared.diagonal.Diagonal.{Diagonal}
 use Rattle.polygon_counting.specs.Diagonals.{at, Uncrossed}
-use Rattle.polygon_counting.specs.Polygons.{first_below, and_then, onward, between, joins, diagonal_dart, dart_to, joined, closes, apex, following, ends, polygon_next}
+use Rattle.polygon_counting.specs.Polygons.{onward, between, joins, diagonal_dart, dart_to, joined, closes, apex, following, ends, polygon_next}
 use Rattle.polygon_counting.specs.Theorem.{Closed, Triangulated, CutIntoTriangles}
-use Rattle.polygon_counting.proofs.Searching.{Tells, search_tells, only_found}
-use Rattle.polygon_counting.proofs.Cases.{onward_less, onward_last, onward_is, by_diagonal, dart_side, dart_other, ends_inside, ends_outside, ends_up, ends_down, ends_past}
+use Rattle.polygon_counting.proofs.Searching.{only_found, only_position}
+use Rattle.polygon_counting.proofs.Cases.{onward_is, dart_side, dart_other, ends_outside, ends_past}
 use Rattle.polygon_counting.proofs.Order.{Between, Order, between_from, between_to, between_turn, between_apart, order}
 use Rattle.polygon_counting.proofs.Counting.{Admissible, Chord, Base, Inner, Outer, last_inner, diag_around, diag_inner, side_outer}
 use Rattle.polygon_counting.proofs.Admitted.{low_of, high_of, admissible}
 
-some_not_none : {A B : Type 0} {o : Option A} {x : A} → o ≡ Some x → o ≡ None → B
-some_not_none p q = absurd (let z : ◌≡◌ {A = ℕ} 0 1 = cc (p, q) in omega arith)
-
-same : {A : Type 0} {o : Option A} {a b : A} → o ≡ Some a → o ≡ Some b → a ≡ b
-same p q = cc
-
 some_of : (o : Option ℕ) → is_some o ≡ true → (d : ℕ) × (o ≡ Some d)
-some_of None e = absurd (let z : ◌≡◌ {A = ℕ} 0 1 = cc (e) in omega arith)
+some_of None e = absurd (cc)
 some_of (Some d) e = (d, refl)
 
 -- d is the inside dart from u to v
@@ -75,83 +74,62 @@ module _ (n : ℕ) (ds : List Diagonal) (ad : Admissible n (length ds) (low_of d
 
   -- the dart from u to v is found
 
-  joins_only : (k u v : ℕ) → k < length ds → lo k ≡ u → hi k ≡ v → (l : ℕ) → l < length ds → joins u v (at ds l) ≡ true → l ≡ k
-  joins_only k u v h a b l h' t = elim (or_cases (eqb (lo l) u && eqb (hi l) v) (eqb (lo l) v && eqb (hi l) u) t) [
-    | inl x ↦ (let y = and_parts (eqb (lo l) u) (eqb (hi l) v) x in
-        ad.distinct l k h' h (eqb-true (lo l) u y.0 ∙ sym a) (eqb-true (hi l) v y.1 ∙ sym b))
-    | inr x ↦ (let y = and_parts (eqb (lo l) v) (eqb (hi l) u) x in
-        absurd (omega (arith, eqb-true (lo l) v y.0, eqb-true (hi l) u y.1, ad.apart l h', ad.apart k h)))
-  ]
+  joins_is : (u v l : ℕ) → joins u v (at ds l) ≡ true → ((lo l ≡ u) × (hi l ≡ v)) ⊎ ((lo l ≡ v) × (hi l ≡ u))
+  joins_is u v l t = grind (arith, nat_tests)
 
-  joins_back : (k u v : ℕ) → k < length ds → hi k ≡ u → lo k ≡ v → (l : ℕ) → l < length ds → joins u v (at ds l) ≡ true → l ≡ k
-  joins_back k u v h a b l h' t = elim (or_cases (eqb (lo l) u && eqb (hi l) v) (eqb (lo l) v && eqb (hi l) u) t) [
-    | inr x ↦ (let y = and_parts (eqb (lo l) v) (eqb (hi l) u) x in
-        ad.distinct l k h' h (eqb-true (lo l) v y.0 ∙ sym b) (eqb-true (hi l) u y.1 ∙ sym a))
-    | inl x ↦ (let y = and_parts (eqb (lo l) u) (eqb (hi l) v) x in
-        absurd (omega (arith, eqb-true (lo l) u y.0, eqb-true (hi l) v y.1, ad.apart l h', ad.apart k h)))
-  ]
+  -- two diagonals that join u and v are one
+  joins_only : (k u v : ℕ) → k < length ds → joins u v (at ds k) ≡ true → (l : ℕ) → l < length ds → joins u v (at ds l) ≡ true → l ≡ k
+  joins_only k u v h t l h' t' =
+      let a = joins_is u v k t in let b = joins_is u v l t' in
+      let p = ad.apart k h in let q = ad.apart l h' in let e = ad.distinct l k h' h in
+      grind arith
 
   joins_up : (k u v : ℕ) → lo k ≡ u → hi k ≡ v → joins u v (at ds k) ≡ true
-  joins_up k u v a b =
-      or_left (eqb (lo k) u && eqb (hi k) v) (eqb (lo k) v && eqb (hi k) u) (and_from (eqb (lo k) u) (eqb (hi k) v) (eq-eqb (lo k) u a) (eq-eqb (hi k) v b))
+  joins_up k u v a b = grind (arith, nat_tests)
 
   joins_down : (k u v : ℕ) → hi k ≡ u → lo k ≡ v → joins u v (at ds k) ≡ true
-  joins_down k u v a b =
-      or_right (eqb (lo k) u && eqb (hi k) v) (eqb (lo k) v && eqb (hi k) u) (and_from (eqb (lo k) v) (eqb (hi k) u) (eq-eqb (lo k) v b) (eq-eqb (hi k) u a))
+  joins_down k u v a b = grind (arith, nat_tests)
 
   not_onward : (k u v : ℕ) → k < length ds → u < n → ((lo k ≡ u) × (hi k ≡ v)) ⊎ ((hi k ≡ u) × (lo k ≡ v)) → v ≡ onward n u → ⊥
   not_onward k u v h l (inl a) e =
-      let p = ad.apart k h in let q = ad.corner k h in let a0 = a.0 in let a1 = a.1 in
-      elim (onward_is n u l) [ inl o ↦ omega (arith, o.1) | inr o ↦ omega (arith, o.1) ]
+      let p = ad.apart k h in let q = ad.corner k h in grind (arith, nat_tests)
   not_onward k u v h l (inr a) e =
-      let p = ad.apart k h in let a0 = a.0 in let a1 = a.1 in
-      elim (onward_is n u l) [ inl o ↦ omega (arith, o.1) | inr o ↦ ad.open_side k h (omega (arith, o.1)) (omega (arith, o.0)) ]
-
-  -- the dart of diagonal k, once the search has found k
-  by_found : (k u v x : ℕ) → first_below (length ds) (λ l. joins u v (at ds l)) ≡ Some k → diagonal_dart n u v k ≡ x → by_diagonal n ds u v ≡ Some x
-  by_found k u v x s e = ap (λ o. and_then o (λ l. Some (diagonal_dart n u v l))) s ∙ ap Some e
+      let p = ad.apart k h in let q = ad.open_side k h in grind (arith, nat_tests)
 
   dart_at : (d u v : ℕ) → D d u v → dart_to n ds u v ≡ Some d
-  unfolding D
-  dart_at d u v (side a b c) = dart_side n ds u v (c ∙ sym (onward_less n u a)) ∙ ap Some (sym b)
-  dart_at d u v (last a b c) = dart_side n ds u v (c ∙ sym (onward_last n u a)) ∙ ap Some (sym b)
+  unfolding D dart_to
+  dart_at d u v (side a b c) = grind (arith, nat_tests)
+  dart_at d u v (last a b c) = grind (arith, nat_tests)
   dart_at d u v (up k h a b c) =
       let p = ad.apart k h in let q = ad.corner k h in
-      let s = only_found (length ds) (λ l. joins u v (at ds l)) k h (joins_up k u v b c) (joins_only k u v h b c) in
-      let z = cond-true {A = ℕ} (ltb u v) 0 1 (lt-ltb u v (omega arith)) in
-      dart_other n ds u v (not_onward k u v h (omega arith) (inl (b, c))) ∙ by_found k u v d s (omega (arith, z, a))
+      let other = not_onward k u v h (omega arith) (inl (b, c)) in
+      let found = only_position (joins u v) ds _ k h (joins_up k u v b c) (joins_only k u v h (joins_up k u v b c)) in
+      grind (arith, nat_tests)
   dart_at d u v (down k h a b c) =
       let p = ad.apart k h in let q = ad.corner k h in
-      let s = only_found (length ds) (λ l. joins u v (at ds l)) k h (joins_down k u v b c) (joins_back k u v h b c) in
-      let z = cond-false {A = ℕ} (ltb u v) 0 1 (le-ltb u v (omega arith)) in
-      dart_other n ds u v (not_onward k u v h (omega arith) (inr (b, c))) ∙ by_found k u v d s (omega (arith, z, a))
+      let other = not_onward k u v h (omega arith) (inr (b, c)) in
+      let found = only_position (joins u v) ds _ k h (joins_down k u v b c) (joins_only k u v h (joins_down k u v b c)) in
+      grind (arith, nat_tests)
 
   -- where a dart is found, it is one
   dart_is : (d u v : ℕ) → u < n → dart_to n ds u v ≡ Some d → D d u v
   unfolding D
   dart_is d u v h f = elim (cases_eq v (onward n u)) [
-    | inl e ↦ (let q = same f (dart_side n ds u v e) in elim (onward_is n u h) [
+    | inl e ↦ (let q : d ≡ 2 * u = cc (f, dart_side n ds u v e) in elim (onward_is n u h) [
       | inl o ↦ side o.0 q (e ∙ o.1)
       | inr o ↦ last o.0 q (e ∙ o.1)
     ])
-    | inr e ↦ found (first_below (length ds) (λ l. joins u v (at ds l))) (search_tells (length ds) (λ l. joins u v (at ds l))) (sym (dart_other n ds u v e) ∙ f)
+    | inr e ↦ option_and_then_some (λ l. Some (diagonal_dart n u v l)) (position (joins u v) ds) d (sym (dart_other n ds u v e) ∙ f) found
   ]
     where
-      found : (o : Option ℕ) → Tells (length ds) (λ l. joins u v (at ds l)) o → and_then o (λ l. Some (diagonal_dart n u v l)) ≡ Some d → Dart n ds d u v
-      found None w q = some_not_none q refl
-      found (Some k) w q =
-          let is : diagonal_dart n u v k ≡ d = same refl q in
-          let less = w.0 in
-          let p = ad.apart k less in
-          elim (or_cases (eqb (lo k) u && eqb (hi k) v) (eqb (lo k) v && eqb (hi k) u) w.1) [
-            | inl x ↦ (let y = and_parts (eqb (lo k) u) (eqb (hi k) v) x in
-                let a = eqb-true (lo k) u y.0 in let b = eqb-true (hi k) v y.1 in
-                let z = cond-true {A = ℕ} (ltb u v) 0 1 (lt-ltb u v (omega arith)) in
-                up k less (omega (arith, is, z)) a b)
-            | inr x ↦ (let y = and_parts (eqb (lo k) v) (eqb (hi k) u) x in
-                let a = eqb-true (lo k) v y.0 in let b = eqb-true (hi k) u y.1 in
-                let z = cond-false {A = ℕ} (ltb u v) 0 1 (le-ltb u v (omega arith)) in
-                down k less (omega (arith, is, z)) b a)
+      found : (k : ℕ) → position (joins u v) ds ≡ Some k → ◌≡◌ {A = Option ℕ} (Some (diagonal_dart n u v k)) (Some d) → Dart n ds d u v
+      found k s q =
+          let is = same_Some (diagonal_dart n u v k) d q in
+          let w = position-Some (joins u v) ds k _ s in
+          let p = ad.apart k w.0 in
+          elim (joins_is u v k w.1) [
+            | inl a ↦ up k w.0 (grind (arith, nat_tests)) a.0 a.1
+            | inr a ↦ down k w.0 (grind (arith, nat_tests)) a.1 a.0
           ]
 
   -- every dart has a triangle
@@ -204,8 +182,7 @@ module _ (n : ℕ) (ds : List Diagonal) (ad : Admissible n (length ds) (low_of d
 
   closes_to : (u v w d e : ℕ) → Between v w u → D d v w → D e w u → closes n ds u v w ≡ true
   closes_to u v w d e b p q =
-      and_from (between v w u) (joined n ds v w && joined n ds w u) (between_to v w u b)
-      (and_from (joined n ds v w) (joined n ds w u) (ap is_some (dart_at d v w p)) (ap is_some (dart_at e w u q)))
+      let x = dart_at d v w p in let y = dart_at e w u q in let z = between_to v w u b in grind (arith, nat_tests)
 
   closes_from : (u v w : ℕ) → (u ≡ v → ⊥) → v < n → w < n → closes n ds u v w ≡ true → Apex u v
   closes_from u v w ne hv hw t =
@@ -227,19 +204,11 @@ module _ (n : ℕ) (ds : List Diagonal) (ad : Admissible n (length ds) (low_of d
   apex_is u v w d e b p q = only_found n (closes n ds u v) w (bounds d v w p).1 (closes_to u v w d e b p q) (only_apex u v w d e b p q)
 
   ends_at : (d u v : ℕ) → D d u v → ends n ds d ≡ Some (u, v)
-  unfolding D
-  ends_at d u v (side a b c) =
-      let e : d / 2 ≡ u = omega arith in
-      ends_inside n ds d (omega arith) (omega arith) ∙ ap₂ (λ x y. Some (x, y)) e (ap (onward n) e ∙ onward_less n u a ∙ sym c)
-  ends_at d u v (last a b c) =
-      let e : d / 2 ≡ u = omega arith in
-      ends_inside n ds d (omega arith) (omega arith) ∙ ap₂ (λ x y. Some (x, y)) e (ap (onward n) e ∙ onward_last n u a ∙ sym c)
-  ends_at d u v (up k h a b c) =
-      let e : d / 2 - n ≡ k = omega arith in
-      ends_up n ds d (omega arith) (omega arith) (omega arith) ∙ ap₂ (λ x y. Some (x, y)) (ap lo e ∙ b) (ap hi e ∙ c)
-  ends_at d u v (down k h a b c) =
-      let e : d / 2 - n ≡ k = omega arith in
-      ends_down n ds d (omega arith) (omega arith) (omega arith) ∙ ap₂ (λ x y. Some (x, y)) (ap hi e ∙ b) (ap lo e ∙ c)
+  unfolding D ends
+  ends_at d u v (side a b c) = let e : d / 2 ≡ u = omega arith in let f : d % 2 ≡ 0 = omega arith in grind (arith, nat_tests)
+  ends_at d u v (last a b c) = let e : d / 2 ≡ u = omega arith in let f : d % 2 ≡ 0 = omega arith in grind (arith, nat_tests)
+  ends_at d u v (up k h a b c) = let e : d / 2 ≡ n + k = omega arith in let f : d % 2 ≡ 0 = omega arith in grind (arith, nat_tests)
+  ends_at d u v (down k h a b c) = let e : d / 2 ≡ n + k = omega arith in let f : d % 2 ≡ 1 = omega arith in grind (arith, nat_tests)
 
   next : ℕ → Option ℕ
   next = polygon_next n ds
@@ -247,11 +216,11 @@ module _ (n : ℕ) (ds : List Diagonal) (ad : Admissible n (length ds) (low_of d
   next_in : (d u v w x y : ℕ) → D d u v → Between v w u → D x v w → D y w u → next d ≡ Some x
   unfolding next polygon_next
   next_in d u v w x y p b q r =
-      ap (λ e. and_then e (λ e. following n ds e.0 e.1)) (ends_at d u v p)
-      ∙ ap (λ o. and_then o (dart_to n ds v)) (apex_is u v w x y b q r) ∙ dart_at x v w q
+      ap (option_and_then (λ e. following n ds e.0 e.1)) (ends_at d u v p)
+      ∙ ap (option_and_then (dart_to n ds v)) (apex_is u v w x y b q r) ∙ dart_at x v w q
 
   starts : (d u v x y : ℕ) → D d u v → D d x y → u ≡ x
-  starts d u v x y p q = let e : ◌≡◌ {A = ℕ × ℕ} (u, v) (x, y) = same (ends_at d u v p) (ends_at d x y q) in ap (λ e. e.0) e
+  starts d u v x y p q = (some_pair_parts u x v y (sym (ends_at d u v p) ∙ ends_at d x y q)).0
 
   -- the triangle to the left of d
   record Triangle (d : ℕ) : Type 0 where
@@ -311,7 +280,7 @@ module _ (n : ℕ) (ds : List Diagonal) (ad : Admissible n (length ds) (low_of d
 
   none_next : (d : ℕ) → ends n ds d ≡ None → next d ≡ None
   unfolding next polygon_next
-  none_next d e = ap (λ e. and_then e (λ e. following n ds e.0 e.1)) e
+  none_next d e = ap (option_and_then (λ e. following n ds e.0 e.1)) e
 
   none_past : (d : ℕ) → 2 * (n + length ds) ≤ d → next d ≡ None
   none_past d h = none_next d (ends_past n ds d (omega arith))
@@ -322,9 +291,9 @@ module _ (n : ℕ) (ds : List Diagonal) (ad : Admissible n (length ds) (low_of d
   run_below : (d u v : ℕ) → ends n ds d ≡ Some (u, v) → (u < n) × (v < n)
   run_below d u v e = elim (run d) [
     | inl r ↦ (let b = bounds d r.0 r.1 r.2 in
-        let q : ◌≡◌ {A = ℕ × ℕ} (r.0, r.1) (u, v) = same (ends_at d r.0 r.1 r.2) e in
-        (subst (λ (x : ℕ). x < n) (ap (λ q. q.0) q) b.0, subst (λ (x : ℕ). x < n) (ap (λ q. q.1) q) b.1))
-    | inr z ↦ some_not_none e z
+        let q = some_pair_parts r.0 u r.1 v (sym (ends_at d r.0 r.1 r.2) ∙ e) in
+        (omega (arith, b.0), omega (arith, b.1)))
+    | inr z ↦ absurd (cc (e, z))
   ]
 
   side_first : (i : ℕ) → i < n → (e : ℕ) × (next (2 * i) ≡ Some e)
@@ -339,26 +308,26 @@ module _ (n : ℕ) (ds : List Diagonal) (ad : Admissible n (length ds) (low_of d
   up_first k h = let t = triangle (2 * (n + k)) (lo k) (hi k) (up k h refl refl refl) in (t.e, t.first)
 
   some_triangle : (d e : ℕ) → next d ≡ Some e → Triangle d
-  some_triangle d e p = elim (inside d) [ inl t ↦ t | inr q ↦ some_not_none p q ]
+  some_triangle d e p = elim (inside d) [ inl t ↦ t | inr q ↦ absurd (cc (p, q)) ]
 
   triangulated : Triangulated n ds
   unfolding next
   triangulated = record {
     lawful = record {
       follows = λ d a p. let t = some_triangle d a p in
-          let q : a ≡ t.e = same p t.first in (t.f, ap next q ∙ t.second);
-      moves = λ d p. let t = some_triangle d d p in t.other (same t.first p);
+          let q : a ≡ t.e = cc (p, t.first) in (t.f, ap next q ∙ t.second);
+      moves = λ d p. let t = some_triangle d d p in t.other (cc (t.first, p));
       round = λ d a b p r. let t = some_triangle d a p in
-          let q : a ≡ t.e = same p t.first in
-          let s : b ≡ t.f = same r (ap next q ∙ t.second) in
+          let q : a ≡ t.e = cc (p, t.first) in
+          let s : b ≡ t.f = cc (r, ap next q ∙ t.second) in
           ap next s ∙ t.third;
       covered = λ e h p q. elim (cases_lt e n) [
-        | inl l ↦ some_not_none (side_first e l).1 p
-        | inr l ↦ (let x : 2 * e ≡ 2 * (n + (e - n)) = omega arith in some_not_none (up_first (e - n) (omega arith)).1 (ap next (sym x) ∙ p))
+        | inl l ↦ absurd (cc ((side_first e l).1, p))
+        | inr l ↦ (let x : 2 * e ≡ 2 * (n + (e - n)) = omega arith in absurd (cc ((up_first (e - n) (omega arith)).1, ap next (sym x) ∙ p)))
       ];
-      bounded = λ d a p. elim (cases_lt d (2 * (n + length ds))) [ inl h ↦ h | inr h ↦ some_not_none p (none_past d h) ];
+      bounded = λ d a p. elim (cases_lt d (2 * (n + length ds))) [ inl h ↦ h | inr h ↦ absurd (cc (p, none_past d h)) ];
     };
-    closed = λ d a p. let t = some_triangle d a p in subst (Closed n ds d) (same t.first p) t.closed;
+    closed = λ d a p. let t = some_triangle d a p in subst (Closed n ds d) (cc (t.first, p)) t.closed;
   }
 
 pub cut_into_triangles : CutIntoTriangles

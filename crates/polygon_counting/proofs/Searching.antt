@@ -1,50 +1,63 @@
 -- What a search finds.
-use Rattle.std.proofs.Common.{◌≡◌, ℕ, zero, suc, ◌<◌, Bool, true, false, cond, Some, None, Option, sym, refl, ap, ◌∙◌, subst, inl, inr, arith}
-use Rattle.std.proofs.lemmas.Bool.{cases_lt, cases_order, both_ways}
-use Rattle.std.specs.Option.{option_or}
-use Rattle.polygon_counting.specs.Polygons.{first_below}
+use Rattle.std.proofs.Common.{◌≡◌, ℕ, zero, suc, ◌<◌, ◌≤◌, Bool, true, false, cond, ltb, List, length, get_or, Some, None, Option, sym, refl, ap, ◌∙◌, inl, inr, arith}
+use Rattle.std.proofs.lemmas.Bool.{cases_lt, cases_order, cond-true, cond-false, lt-ltb, false_from_ne_true}
+use Rattle.std.proofs.lemmas.List.Sums.{position_or_len_is}
+use Rattle.std.specs.List.{position, position_or_len}
+use Rattle.std.specs.Option.{option_or, MatchOption}
+use Rattle.polygon_counting.specs.Polygons.{first_some, first_below}
 
--- what the answer of a search below n tells
-abbrev pub Tells : ℕ → (ℕ → Bool) → Option ℕ → Type 0
-Tells n p None = (k : ℕ) → k < n → p k ≡ false
-Tells n p (Some k) = (k < n) × (p k ≡ true) × ((l : ℕ) → l < k → p l ≡ false)
+-- what the first of f 0, f 1, .., f (n - 1) that there is tells
+abbrev pub Tells : {A : Type 0} → ℕ → (ℕ → Option A) → Option A → Type 0
+Tells n f None = (k : ℕ) → k < n → f k ≡ None
+Tells n f (Some x) = (i : ℕ) × (i < n) × (f i ≡ Some x) × ((k : ℕ) → k < i → f k ≡ None)
 
-pub search_tells : (n : ℕ) (p : ℕ → Bool) → Tells n p (first_below n p)
-unfolding first_below
-search_tells zero p = λ k h. absurd (omega arith)
-search_tells (suc n) p = step (first_below n p) (search_tells n p) (p n) refl
+pub first_tells : {A : Type 0} (n : ℕ) (f : ℕ → Option A) → Tells n f (first_some n f)
+first_tells zero f = λ k h. absurd (omega arith)
+first_tells {A} (suc n) f = step (first_some n f) (first_tells n f) (f n) refl
   where
-    step : (o : Option ℕ) → Tells n p o → (b : Bool) → p n ≡ b → Tells (suc n) p (option_or o (cond b (Some n) None))
-    step (Some k) w b e = (omega (arith, w.0), w.1, w.2)
-    step None w true e = (omega arith, e, w)
-    step None w false e = λ k h. elim (cases_lt k n) [ inl l ↦ w k l | inr l ↦ (let q : n ≡ k = omega arith in ap p (sym q) ∙ e) ]
+    step : (o : Option A) → Tells n f o → (p : Option A) → f n ≡ p → Tells (suc n) f (option_or o p)
+    step (Some x) w p e = (w.0, omega (arith, w.1), w.2, w.3)
+    step None w (Some x) e = (n, omega arith, e, w)
+    step None w None e = λ k h. elim (cases_lt k n) [ inl l ↦ w k l | inr l ↦ (let q : k ≡ n = omega arith in ap f q ∙ e) ]
 
--- the first that passes is found
-pub first_found : (n : ℕ) (p : ℕ → Bool) (k : ℕ) → k < n → p k ≡ true → ((l : ℕ) → l < k → p l ≡ false) → first_below n p ≡ Some k
-first_found n p k h t f = go (first_below n p) refl (search_tells n p)
+-- what tells so much is the first
+pub told_first : {A : Type 0} (n : ℕ) (f : ℕ → Option A) (o : Option A) → Tells n f o → o ≡ first_some n f
+told_first {A} n f o w = same o (first_some n f) w (first_tells n f)
   where
-    go : (o : Option ℕ) → first_below n p ≡ o → Tells n p o → first_below n p ≡ Some k
-    go None e w = absurd (both_ways (p k) (w k h) t)
-    go (Some j) e w = e ∙ ap Some (elim (cases_order j k) [
-      | inl q ↦ q
-      | inr (inl l) ↦ absurd (both_ways (p j) (f j l) w.1)
-      | inr (inr l) ↦ absurd (both_ways (p k) (w.2 k l) t)
-    ])
+    same : (a b : Option A) → Tells n f a → Tells n f b → a ≡ b
+    same None None v w = refl
+    same None (Some y) v w = absurd (cc (v w.0 w.1, w.2))
+    same (Some x) None v w = absurd (cc (w v.0 v.1, v.2))
+    same (Some x) (Some y) v w = elim (cases_order v.0 w.0) [
+      | inl q ↦ sym v.2 ∙ ap f q ∙ w.2
+      | inr (inl l) ↦ absurd (cc (w.3 v.0 l, v.2))
+      | inr (inr l) ↦ absurd (cc (v.3 w.0 l, w.2))
+    ]
 
--- the only one that passes is found
-pub only_found : (n : ℕ) (p : ℕ → Bool) (k : ℕ) → k < n → p k ≡ true → ((l : ℕ) → l < n → p l ≡ true → l ≡ k) → first_below n p ≡ Some k
-only_found n p k h t u = go (first_below n p) refl (search_tells n p)
-  where
-    go : (o : Option ℕ) → first_below n p ≡ o → Tells n p o → first_below n p ≡ Some k
-    go None e w = absurd (both_ways (p k) (w k h) t)
-    go (Some j) e w = e ∙ ap Some (u j w.0 w.1)
+module _ (n : ℕ) (p : ℕ → Bool) where
+  -- the only one that passes is found
+  pub only_found : (k : ℕ) → k < n → p k ≡ true → ((l : ℕ) → l < n → p l ≡ true → l ≡ k) → first_below n p ≡ Some k
+  unfolding first_below
+  only_found k h t u =
+      sym (told_first n (λ k. cond (p k) (Some k) None) (Some k) (
+        k,
+        h,
+        cond-true (p k) (Some k) None t,
+        λ l m. cond-false (p l) (Some l) None (false_from_ne_true (p l) (λ e. omega (arith, u l (omega arith) e))),
+      ))
 
-pub none_found : (n : ℕ) (p : ℕ → Bool) → ((l : ℕ) → l < n → p l ≡ false) → first_below n p ≡ None
-none_found n p f = go (first_below n p) refl (search_tells n p)
-  where
-    go : (o : Option ℕ) → first_below n p ≡ o → Tells n p o → first_below n p ≡ None
-    go None e w = e
-    go (Some j) e w = absurd (both_ways (p j) (f j w.0) w.1)
+  -- what a search of the numbers from 0 finds
+  pub range_found : (o : Option ℕ) → MatchOption o ((k : ℕ) → 0 ≤ k → k < n → p k ≡ false) (λ i. (0 ≤ i) × (i < n) × (p i ≡ true) × ((k : ℕ) → 0 ≤ k → k < i → p k ≡ false))
+      → o ≡ first_below n p
+  unfolding first_below
+  range_found None w = told_first n (λ k. cond (p k) (Some k) None) None (λ k h. cond-false (p k) (Some k) None (w k (omega arith) h))
+  range_found (Some i) w =
+      told_first n (λ k. cond (p k) (Some k) None) (Some i)
+      (i, w.1, cond-true (p i) (Some i) None w.2, λ k h. cond-false (p k) (Some k) None (w.3 k (omega arith) h))
 
-pub found_below : (n : ℕ) (p : ℕ → Bool) (k : ℕ) → first_below n p ≡ Some k → k < n
-found_below n p k e = (subst (Tells n p) e (search_tells n p)).0
+-- the only element that passes is found
+pub only_position : {X : Type 0} (p : X → Bool) (xs : List X) (d : X) (k : ℕ) → k < length xs → p (get_or xs k d) ≡ true
+    → ((l : ℕ) → l < length xs → p (get_or xs l d) ≡ true → l ≡ k) → position p xs ≡ Some k
+only_position p xs d k h t u =
+    let e = position_or_len_is p xs k d (omega arith) (λ l m. false_from_ne_true (p (get_or xs l d)) (λ s. omega (arith, u l (omega arith) s))) (λ _. t) in
+    cond-true (ltb (position_or_len p xs) (length xs)) (Some (position_or_len p xs)) None (lt-ltb (position_or_len p xs) (length xs) (omega arith)) ∙ ap Some e

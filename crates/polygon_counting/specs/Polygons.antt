@@ -2,20 +2,20 @@
 -- next; its even dart runs that way and is inside, and its odd dart lies outside. Diagonal k is edge n + k; its even dart runs from
 -- its smaller corner, its odd dart from its larger.
 use Rattle.std.specs.Prelude.{ℕ, zero, suc, ◌+◌, ◌-◌, ◌*◌, ◌%◌, Bool, cond, ◌&&◌, ◌||◌, List, length, is_some, Some, None, Option, ◌==◌, nat_lt}
-use Rattle.std.specs.Option.{option_or}
+use Rattle.std.specs.Option.{option_or, option_and_then}
+use Rattle.std.specs.List.{position}
 use Rattle.triangulations.specs.Triangulations.{Triangulation, edge_of}
 use Rattle.polygon_counting.specs.declared.diagonal.Diagonal.{Diagonal}
 use Rattle.polygon_counting.specs.Diagonals.{at}
 
+-- the first of f 0, f 1, .., f (n - 1) that there is
+abbrev pub first_some : {A : Type 0} → ℕ → (ℕ → Option A) → Option A
+first_some zero f = None
+first_some (suc n) f = option_or (first_some n f) (f n)
+
 -- the least number below n that passes the test, where one does
 unfoldable pub first_below : ℕ → (ℕ → Bool) → Option ℕ
-first_below zero p = None
-first_below (suc n) p = option_or (first_below n p) (cond (p n) (Some n) None)
-
--- what f makes of a value, where there is one
-abbrev pub and_then : {A B : Type 0} → Option A → (A → Option B) → Option B
-and_then None f = None
-and_then (Some x) f = f x
+first_below n p = first_some n (λ k. cond (p k) (Some k) None)
 
 -- the corner after corner i
 abbrev pub onward : ℕ → ℕ → ℕ
@@ -37,7 +37,7 @@ diagonal_dart n u v k = 2 * (n + k) + cond (nat_lt u v) 0 1
 unfoldable pub dart_to : ℕ → List Diagonal → ℕ → ℕ → Option ℕ
 dart_to n ds u v =
     cond (v == onward n u) (Some (2 * u))
-    (and_then (first_below (length ds) (λ k. joins u v (at ds k))) (λ k. Some (diagonal_dart n u v k)))
+    (option_and_then (λ k. Some (diagonal_dart n u v k)) (position (joins u v) ds))
 
 -- whether an inside dart runs from u to v
 abbrev pub joined : ℕ → List Diagonal → ℕ → ℕ → Bool
@@ -53,7 +53,7 @@ apex n ds u v = first_below n (closes n ds u v)
 
 -- the dart that follows the one from u to v
 abbrev pub following : ℕ → List Diagonal → ℕ → ℕ → Option ℕ
-following n ds u v = and_then (apex n ds u v) (λ w. dart_to n ds v w)
+following n ds u v = option_and_then (dart_to n ds v) (apex n ds u v)
 
 -- the corners from and to which the dart of side i runs, where it is the even one
 abbrev pub side_ends : ℕ → ℕ → Bool → Option (ℕ × ℕ)
@@ -71,7 +71,7 @@ ends n ds d =
 
 -- the dart that follows d, where d is inside
 unfoldable pub polygon_next : ℕ → List Diagonal → ℕ → Option ℕ
-polygon_next n ds d = and_then (ends n ds d) (λ e. following n ds e.0 e.1)
+polygon_next n ds d = option_and_then (λ e. following n ds e.0 e.1) (ends n ds d)
 
 abbrev pub polygon : ℕ → List Diagonal → Triangulation
 polygon n ds = record { edges = n + length ds; next = polygon_next n ds }

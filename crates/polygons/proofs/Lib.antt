@@ -1,3 +1,4 @@
-pub mod Storing
+pub mod Admission
+pub mod Mapping
 pub mod Rows
 pub mod Pentagon

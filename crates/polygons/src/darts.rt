@@ -1,6 +1,6 @@
-ghost use Rattle.std.specs.Prelude.{◌≡◌, ◌-◌, ◌<◌, length};
-ghost use Rattle.polygon_counting.specs.Diagonals.{at};
-ghost use Rattle.polygon_counting.specs.Polygons.{first_below, onward, between, joins, dart_to, closes, apex, ends};
+ghost use Rattle.std.specs.Prelude.{◌≡◌, ◌==◌, ◌<◌, length};
+ghost use Rattle.std.specs.List.{position};
+ghost use Rattle.polygon_counting.specs.Polygons.{onward, between, joins, dart_to, joined, closes, apex, ends};
 ghost use Rattle.polygons.specs.Meaning.{cut_by, triangulation_of};
 ghost use Rattle.polygons.specs.Shape.{polygon_sound};
 
@@ -18,6 +18,7 @@ impl Surface for Polygon {
         2 * self.corners - 3
     }
 
+    #[tactic(auto, using(crate::specs::Shape::ends_below), unfolding(polygon_counting::specs::Polygons::polygon_next))]
     fn after(&self, dart: Dart) -> Option<Dart> {
         let (u, v) = self.ends(dart)?;
         let w = self.apex(u, v)?;
@@ -25,90 +26,75 @@ impl Surface for Polygon {
     }
 }
 
+// Two corners `u` and `v` are passed one by one, as the definitions take them: each clause would take a struct of the two apart.
 impl Polygon {
     // The corners from and to which an inside dart runs.
+    #[tactic(auto, using(crate::specs::Shape::cut_length, polygon_counting::proofs::Cases::onward_rem), unfolding(polygon_counting::specs::Polygons::ends))]
     fn ends(&self, dart: Dart) -> Option<(Corner, Corner)>
         ensures { result ≡ ends self.now.corners (cut_by self.now) dart }
     {
         let edge = dart / 2;
         let even = dart % 2 == 0;
         if edge < self.corners {
-            return if even {
-                Some((edge, self.onward(edge)))
-            } else {
-                None
-            };
+            return even.then_some((edge, (edge + 1) % self.corners));
         }
-        if edge >= 2 * self.corners - 3 {
-            return None;
-        }
-        let Diagonal { low, high } = self.diagonal(edge - self.corners);
+        let Diagonal { low, high } = *self.diagonals().get((edge - self.corners) as usize)?;
         Some(if even { (low, high) } else { (high, low) })
     }
 
     // The corner that closes the triangle on the left of the dart from `u` to `v`.
     fn apex(&self, u: Corner, v: Corner) -> Option<Corner>
-        requires { v < self.now.corners }
         ensures { result ≡ apex self.now.corners (cut_by self.now) u v }
     {
-        for w in 0..self.corners {
-            if self.is_closed_by(u, v, w) {
-                return Some(w);
-            }
-        }
-        None
+        (0..self.corners).find(|&w| self.is_closed_by(u, v, w))
     }
 
     // Whether `w` is joined to `u` and `v` and is met going counterclockwise from `v` to `u`.
     fn is_closed_by(&self, u: Corner, v: Corner, w: Corner) -> bool
-        requires { (v < self.now.corners) × (w < self.now.corners) }
         ensures { result ≡ closes self.now.corners (cut_by self.now) u v w }
     {
-        is_between(v, w, u) && self.dart_to(v, w).is_some() && self.dart_to(w, u).is_some()
+        is_between(v, w, u) && self.are_joined(v, w) && self.are_joined(w, u)
+    }
+
+    // Whether an inside dart runs from `u` to `v`.
+    #[tactic(auto, unfolding(polygon_counting::specs::Polygons::dart_to))]
+    fn are_joined(&self, u: Corner, v: Corner) -> bool
+        ensures { result ≡ joined self.now.corners (cut_by self.now) u v }
+    {
+        self.is_side(u, v) || self.find(u, v).is_some()
     }
 
     // The inside dart from `u` to `v`, where there is one.
+    #[tactic(auto, using(crate::specs::Shape::found_diagonal), unfolding(polygon_counting::specs::Polygons::dart_to))]
     fn dart_to(&self, u: Corner, v: Corner) -> Option<Dart>
         requires { u < self.now.corners }
         ensures { result ≡ dart_to self.now.corners (cut_by self.now) u v }
     {
-        if v == self.onward(u) {
+        if self.is_side(u, v) {
             return Some(2 * u);
         }
-        let k = self.find(u, v)?;
+        let k = self.find(u, v)? as u8;
         Some(2 * (self.corners + k) + if u < v { 0 } else { 1 })
     }
 
-    // The diagonal that joins `u` and `v`, where one does.
-    fn find(&self, u: Corner, v: Corner) -> Option<u8>
-        ensures { result ≡ first_below (length (cut_by self.now)) (λ k. joins u v (at (cut_by self.now) k)) }
+    // Whether `v` is the corner after `u`. Either may be past the last corner, so nothing is added to them.
+    fn is_side(&self, u: Corner, v: Corner) -> bool
+        ensures { result ≡ (v == onward self.now.corners u) }
     {
-        for k in 0..self.corners - 3 {
-            if does_join(u, v, self.diagonal(k)) {
-                return Some(k);
-            }
-        }
-        None
-    }
-
-    // Diagonal `k`.
-    fn diagonal(&self, k: u8) -> Diagonal
-        requires { k < self.now.corners - 3 }
-        ensures { result ≡ at (cut_by self.now) k }
-    {
-        self.diagonals[k as usize]
-    }
-
-    // The corner after `corner`.
-    fn onward(&self, corner: Corner) -> Corner
-        requires { corner < self.now.corners }
-        ensures { result ≡ onward self.now.corners corner }
-    {
-        if corner + 1 == self.corners {
-            0
+        if v == 0 {
+            u == self.corners - 1
         } else {
-            corner + 1
+            u == v - 1 && v != self.corners
         }
+    }
+
+    // Which diagonal joins `u` and `v`, where one does.
+    fn find(&self, u: Corner, v: Corner) -> Option<usize>
+        ensures { result ≡ position (joins u v) (cut_by self.now) }
+    {
+        self.diagonals()
+            .iter()
+            .position(|diagonal| does_join(u, v, *diagonal))
     }
 }
 
@@ -126,5 +112,5 @@ fn is_between(v: Corner, w: Corner, u: Corner) -> bool
 fn does_join(u: Corner, v: Corner, diagonal: Diagonal) -> bool
     ensures { result ≡ joins u v diagonal }
 {
-    (diagonal.low == u && diagonal.high == v) || (diagonal.low == v && diagonal.high == u)
+    diagonal == Diagonal { low: u, high: v } || diagonal == Diagonal { low: v, high: u }
 }

@@ -1,7 +1,9 @@
-ghost use Rattle.std.specs.Prelude.{◌≡◌, ◌<◌, ◌≤◌, length, None};
+ghost use Rattle.std.specs.Prelude.{◌≡◌, ◌<◌, ◌≤◌, not, length, take, Ok};
+ghost use Rattle.std.specs.List.{list_all};
 ghost use Rattle.polygon_counting.specs.Diagonals.{neighbours, proper, leaves, clashes};
-ghost use Rattle.polygons.specs.Judging.{clear, diagonal_fault, first_fault};
+ghost use Rattle.polygons.specs.Judging.{diagonal_fault, first_fault, told};
 
+use crate::polygon::MOST_DIAGONALS;
 use polygon_counting::diagonal::{Corner, Diagonal};
 use surfaces::faults::SurfaceFault;
 
@@ -30,56 +32,67 @@ fn is_left_by(a: Diagonal, b: Diagonal) -> bool
 fn do_clash(a: Diagonal, b: Diagonal) -> bool
     ensures { result ≡ clashes a b }
 {
-    is_left_by(a, b) || is_left_by(b, a) || (a.low == b.low && a.high == b.high)
+    is_left_by(a, b) || is_left_by(b, a) || a == b
 }
 
-// Whether diagonal `k` neither crosses nor repeats an earlier one.
-fn is_clear(diagonals: &[Diagonal], k: u8) -> bool
-    requires { k < length diagonals.now }
-    ensures { result ≡ clear diagonals.now k }
+// Whether a diagonal neither crosses nor repeats one of these.
+fn is_clear(diagonal: Diagonal, earlier: &[Diagonal]) -> bool
+    ensures { result ≡ list_all (λ e. not (clashes diagonal e)) earlier.now }
 {
-    for j in 0..k {
-        if do_clash(diagonals[k as usize], diagonals[j as usize]) {
-            return false;
+    earlier.iter().all(|e| !do_clash(diagonal, *e))
+}
+
+// Diagonals along which a polygon is to be cut; no polygon has more than 30.
+#[derive(Drop)]
+pub(crate) struct Cut<'a> {
+    pub(crate) corners: u8,
+    pub(crate) diagonals: &'a [Diagonal],
+    ghost few: { length diagonals.now ≤ 30 },
+}
+
+impl Cut<'_> {
+    // Refuses with the first fault of the diagonals, in their order.
+    pub(crate) fn judge(&self) -> Result<(), SurfaceFault>
+        ensures { result ≡ told (first_fault self.now.corners self.now.diagonals.now) }
+    {
+        (0..self.diagonals.len() as u8)
+            .find_map(|k| self.fault_of(k))
+            .map_or(Ok(()), Err)
+    }
+
+    fn fault_of(&self, k: u8) -> Option<SurfaceFault>
+        requires { k < length self.now.diagonals.now }
+        ensures { result ≡ diagonal_fault self.now.corners self.now.diagonals.now k }
+    {
+        let diagonal = self.diagonals[k as usize];
+        if !is_proper(self.corners, diagonal) {
+            Some(SurfaceFault::NotDiagonal(k))
+        } else if !is_clear(diagonal, &self.diagonals[..k as usize]) {
+            Some(SurfaceFault::Crosses(k))
+        } else {
+            None
         }
     }
-    true
-}
 
-fn fault_of(corners: u8, diagonals: &[Diagonal], k: u8) -> Option<SurfaceFault>
-    requires { k < length diagonals.now }
-    ensures { result ≡ diagonal_fault corners diagonals.now k }
-{
-    if !is_proper(corners, diagonals[k as usize]) {
-        Some(SurfaceFault::NotDiagonal(k))
-    } else if !is_clear(diagonals, k) {
-        Some(SurfaceFault::Crosses(k))
-    } else {
-        None
+    // A table that begins with the diagonals: that of a `Polygon`, which is `Copy` and needs no heap.
+    pub(crate) fn table(&self) -> [Diagonal; MOST_DIAGONALS]
+        ensures whole { length result ≡ 30 }
+        ensures front { take (length self.now.diagonals.now) result ≡ self.now.diagonals.now }
+    {
+        let mut table = [Diagonal { low: 0, high: 0 }; MOST_DIAGONALS];
+        table[..self.diagonals.len()].copy_from_slice(self.diagonals);
+        table
     }
 }
 
-// The first fault of the diagonals, in their order.
-pub(crate) fn first_fault(corners: u8, diagonals: &[Diagonal]) -> Option<SurfaceFault>
-    requires { length diagonals.now ≤ 30 }
-    ensures { result ≡ first_fault corners diagonals.now }
+/// Refuses at most 30 diagonals of a polygon with their first fault, in their order: 8 where one is none, 9 where it crosses or
+/// repeats an earlier one. More, which no polygon has, are not judged.
+pub fn judge_diagonals(corners: u8, diagonals: &[Diagonal]) -> Result<(), SurfaceFault>
+    ensures judged { length diagonals.now ≤ 30 → result ≡ told (first_fault corners diagonals.now) }
+    ensures long { 30 < length diagonals.now → result ≡ Ok tt }
 {
-    for k in 0..diagonals.len() as u8 {
-        if let Some(fault) = fault_of(corners, diagonals, k) {
-            return Some(fault);
-        }
+    if diagonals.len() > MOST_DIAGONALS {
+        return Ok(());
     }
-    None
-}
-
-/// The first fault of at most 30 diagonals of a polygon, in their order: 8 where one is none, 9 where it crosses or repeats an
-/// earlier one. Nothing is said of more, which no polygon has.
-pub fn judge_diagonals(corners: u8, diagonals: &[Diagonal]) -> Option<SurfaceFault>
-    ensures judged { length diagonals.now ≤ 30 → result ≡ first_fault corners diagonals.now }
-    ensures long { 30 < length diagonals.now → result ≡ None }
-{
-    if diagonals.len() > 30 {
-        return None;
-    }
-    first_fault(corners, diagonals)
+    Cut { corners, diagonals }.judge()
 }

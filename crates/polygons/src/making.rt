@@ -1,8 +1,8 @@
-ghost use Rattle.std.specs.Prelude.{◌≡◌, ◌≤◌, length, take, is_ok, Decides};
+ghost use Rattle.std.specs.Prelude.{◌≡◌, is_ok, Decides};
 ghost use Rattle.polygons.specs.Judging.{Admitted, counts_fit};
 ghost use Rattle.polygons.specs.Meaning.{cut_by, Made};
 
-use crate::judging::first_fault;
+use crate::judging::Cut;
 use crate::polygon::Polygon;
 use polygon_counting::diagonal::Diagonal;
 use surfaces::faults::SurfaceFault;
@@ -10,6 +10,7 @@ use surfaces::faults::SurfaceFault;
 impl Polygon {
     /// The polygon with so many corners, cut along these diagonals. Refused are counts of corners below 3 and above 33, then any count of
     /// diagonals but three less, then the first diagonal that is none, or else crosses or repeats an earlier one.
+    #[tactic(auto, using(crate::proofs::Admission::admitted, crate::proofs::Admission::none_first, polygon_counting::proofs::Laws::cut_into_triangles))]
     pub fn new(corners: u16, diagonals: &[Diagonal]) -> Result<Polygon, SurfaceFault>
         ensures granted { Decides (is_ok result) (Admitted corners diagonals.now) }
         ensures made { Made corners diagonals.now result }
@@ -17,13 +18,14 @@ impl Polygon {
         if !fit_together(corners, diagonals.len()) {
             return Err(SurfaceFault::CountOutside);
         }
-        let corners = corners as u8;
-        if let Some(fault) = first_fault(corners, diagonals) {
-            return Err(fault);
-        }
+        let cut = Cut {
+            corners: corners as u8,
+            diagonals,
+        };
+        cut.judge()?;
         Ok(Polygon {
-            corners,
-            diagonals: stored(diagonals),
+            corners: cut.corners,
+            diagonals: cut.table(),
         })
     }
 
@@ -38,7 +40,7 @@ impl Polygon {
     pub fn diagonals(&self) -> &[Diagonal]
         ensures { result.now ≡ cut_by self.now }
     {
-        &self.diagonals[0..self.corners as usize - 3]
+        &self.diagonals[..self.corners as usize - 3]
     }
 }
 
@@ -46,16 +48,5 @@ impl Polygon {
 fn fit_together(corners: u16, diagonals: usize) -> bool
     ensures { result ≡ counts_fit corners diagonals }
 {
-    3 <= corners && corners <= 33 && diagonals == corners as usize - 3
-}
-
-// A table that begins with these diagonals.
-fn stored(diagonals: &[Diagonal]) -> [Diagonal; 30]
-    requires { length diagonals.now ≤ 30 }
-    ensures whole { length result ≡ 30 }
-    ensures front { take (length diagonals.now) result ≡ diagonals.now }
-{
-    let mut table = [Diagonal { low: 0, high: 0 }; 30];
-    table[0..diagonals.len()].copy_from_slice(diagonals);
-    table
+    (3..=33).contains(&corners) && diagonals == corners as usize - 3
 }

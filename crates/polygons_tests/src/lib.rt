@@ -18,7 +18,7 @@ mod tests {
     use surfaces::loading::load;
     use surfaces::surface_trait::Surface;
     use triangulations::board::Board;
-    use triangulations::step::{Flip, Label, Side, Step};
+    use triangulations::step::{Label, Step};
 
     fn make(
         heap: Global,
@@ -71,34 +71,6 @@ mod tests {
         Ok(())
     }
 
-    fn refuses(
-        rt: &impl Abort,
-        heap: Global,
-        corners: u16,
-        pairs: &[[u8; 2]],
-        fault: SurfaceFault,
-    ) -> Result<(), Fail> {
-        refuses_as(rt, heap, corners, pairs, fault, "the fault")
-    }
-
-    // The same, with what the case shows.
-    fn refuses_as(
-        rt: &impl Abort,
-        heap: Global,
-        corners: u16,
-        pairs: &[[u8; 2]],
-        fault: SurfaceFault,
-        why: &str,
-    ) -> Result<(), Fail> {
-        match make(heap, corners, pairs)? {
-            Ok(_) => Err(Fail::new("granted")),
-            Err(found) => {
-                assert_eq!(rt; found, fault, "{why}");
-                Ok(())
-            },
-        }
-    }
-
     #[test]
     fn a_triangle(rt: HostRuntime) -> Result<(), Fail> {
         cut(&rt, rt.alloc(), 3, &[], &[[0, 2, 4]])
@@ -136,12 +108,10 @@ mod tests {
     // The diagonals that the bits of `mask` choose.
     fn chosen(heap: Global, mask: u32) -> Result<Vec<[u8; 2]>, Fail> {
         let mut pairs = Vec::new(heap);
-        let mut rest = mask;
-        for pair in cases::HEPTAGON_DIAGONALS {
-            if rest % 2 == 1 {
-                pairs.push(pair)?;
+        for (k, pair) in cases::HEPTAGON_DIAGONALS.iter().enumerate() {
+            if mask >> k & 1 == 1 {
+                pairs.push(*pair)?;
             }
-            rest /= 2;
         }
         Ok(pairs)
     }
@@ -171,52 +141,30 @@ mod tests {
         )
     }
 
-    fn left(edge: u8) -> Step {
-        Step::Flip(Flip {
-            side: Side::Left,
-            edge,
-        })
-    }
-
     // The board after these steps on the pentagon with the diagonals 0–2 and 0–3.
     fn after_steps(rt: &impl Abort, heap: Global, steps: &[Step]) -> Result<Board, Fail> {
         let polygon = make(heap, 5, &[[0, 2], [0, 3]])??;
         let mut board = Board::new();
         load(&polygon, &mut board);
         for step in steps {
-            assert!(rt; board.step(*step));
+            assert_eq!(rt; board.step(*step), Ok(()));
         }
         Ok(board)
-    }
-
-    fn agree(rt: &impl Abort, a: &Board, b: &Board) {
-        assert_eq!(rt; a.edges(), b.edges());
-        for dart in 0..=255u8 {
-            assert_eq!(rt; a.after(dart), b.after(dart));
-        }
     }
 
     #[test]
     fn five_flips_of_a_pentagon(rt: HostRuntime) -> Result<(), Fail> {
         let heap = rt.alloc();
-        let flips = after_steps(&rt, heap, &[left(5), left(6), left(5), left(6), left(5)])?;
+        let (left_5, left_6) = (Step::left(5), Step::left(6));
+        let (turn_5, turn_6) = (Step::turn(5), Step::turn(6));
+        let swap = Step::Label(Label::Swap(5, 6));
+        let flips = after_steps(&rt, heap, &[left_5, left_6, left_5, left_6, left_5])?;
         for (dart, next) in pentagon_walks().iter().enumerate() {
             assert_eq!(rt; flips.after(u8::try_from(dart)?), *next);
         }
-        let swap = Step::Label(Label::Swap(5, 6));
-        let turn_5 = Step::Label(Label::Turn(5));
-        let turn_6 = Step::Label(Label::Turn(6));
-        agree(
-            &rt,
-            &flips,
-            &after_steps(&rt, heap, &[swap, turn_5, turn_6])?,
-        );
-        let turned = after_steps(
-            &rt,
-            heap,
-            &[turn_5, left(5), left(6), left(5), left(6), left(5)],
-        )?;
-        agree(&rt, &turned, &after_steps(&rt, heap, &[turn_5, swap])?);
+        assert_eq!(rt; flips, after_steps(&rt, heap, &[swap, turn_5, turn_6])?);
+        let turned = after_steps(&rt, heap, &[turn_5, left_5, left_6, left_5, left_6, left_5])?;
+        assert_eq!(rt; turned, after_steps(&rt, heap, &[turn_5, swap])?);
         Ok(())
     }
 
@@ -224,81 +172,88 @@ mod tests {
     fn counts(rt: HostRuntime) -> Result<(), Fail> {
         let heap = rt.alloc();
         for corners in [0u16, 1, 2, 34, 256 + 3, 65535] {
-            refuses(&rt, heap, corners, &[], CountOutside)?;
+            assert_eq!(rt; make(heap, corners, &[])?, Err(CountOutside));
         }
-        refuses(&rt, heap, 34, &cases::FAN, CountOutside)?;
-        refuses(&rt, heap, 3, &[[0, 2]], CountOutside)?;
-        refuses(&rt, heap, 5, &[[0, 2]], CountOutside)?;
-        refuses(&rt, heap, 5, &[[0, 2], [0, 3], [0, 2]], CountOutside)?;
-        refuses_as(
-            &rt,
-            heap,
-            5,
-            &[[1, 0]],
-            CountOutside,
-            "the counts are judged first",
-        )
+        assert_eq!(rt; make(heap, 34, &cases::FAN)?, Err(CountOutside));
+        assert_eq!(rt; make(heap, 3, &[[0, 2]])?, Err(CountOutside));
+        assert_eq!(rt; make(heap, 5, &[[0, 2]])?, Err(CountOutside));
+        assert_eq!(rt;
+            make(heap, 5, &[[0, 2], [0, 3], [0, 2]])?,
+            Err(CountOutside)
+        );
+        assert_eq!(rt;
+            make(heap, 5, &[[1, 0]])?,
+            Err(CountOutside),
+            "the counts are judged first"
+        );
+        Ok(())
     }
 
     #[test]
     fn pairs_that_are_no_diagonals(rt: HostRuntime) -> Result<(), Fail> {
         let heap = rt.alloc();
-        refuses_as(&rt, heap, 4, &[[2, 0]], NotDiagonal(0), "falling")?;
-        refuses_as(&rt, heap, 4, &[[2, 2]], NotDiagonal(0), "a corner twice")?;
-        refuses_as(&rt, heap, 4, &[[0, 4]], NotDiagonal(0), "no corner")?;
-        refuses_as(&rt, heap, 4, &[[200, 255]], NotDiagonal(0), "no corners")?;
-        refuses_as(&rt, heap, 4, &[[0, 1]], NotDiagonal(0), "a side")?;
-        refuses_as(
-            &rt,
-            heap,
-            4,
-            &[[2, 3]],
-            NotDiagonal(0),
-            "the side before the last",
-        )?;
-        refuses_as(&rt, heap, 4, &[[0, 3]], NotDiagonal(0), "the last side")?;
-        refuses(&rt, heap, 6, &[[0, 2], [0, 3], [0, 5]], NotDiagonal(2))?;
-        refuses_as(
-            &rt,
-            heap,
-            6,
-            &[[0, 2], [3, 2], [0, 2]],
-            NotDiagonal(1),
-            "in their order",
-        )?;
-        refuses_as(
-            &rt,
-            heap,
-            6,
-            &[[1, 4], [4, 1], [0, 2]],
-            NotDiagonal(1),
-            "8 before 9",
-        )
+        assert_eq!(rt; make(heap, 4, &[[2, 0]])?, Err(NotDiagonal(0)), "falling");
+        assert_eq!(rt;
+            make(heap, 4, &[[2, 2]])?,
+            Err(NotDiagonal(0)),
+            "a corner twice"
+        );
+        assert_eq!(rt; make(heap, 4, &[[0, 4]])?, Err(NotDiagonal(0)), "no corner");
+        assert_eq!(rt;
+            make(heap, 4, &[[200, 255]])?,
+            Err(NotDiagonal(0)),
+            "no corners"
+        );
+        assert_eq!(rt; make(heap, 4, &[[0, 1]])?, Err(NotDiagonal(0)), "a side");
+        assert_eq!(rt;
+            make(heap, 4, &[[2, 3]])?,
+            Err(NotDiagonal(0)),
+            "the side before the last"
+        );
+        assert_eq!(rt;
+            make(heap, 4, &[[0, 3]])?,
+            Err(NotDiagonal(0)),
+            "the last side"
+        );
+        assert_eq!(rt;
+            make(heap, 6, &[[0, 2], [0, 3], [0, 5]])?,
+            Err(NotDiagonal(2))
+        );
+        assert_eq!(rt;
+            make(heap, 6, &[[0, 2], [3, 2], [0, 2]])?,
+            Err(NotDiagonal(1)),
+            "in their order"
+        );
+        assert_eq!(rt;
+            make(heap, 6, &[[1, 4], [4, 1], [0, 2]])?,
+            Err(NotDiagonal(1)),
+            "8 before 9"
+        );
+        Ok(())
     }
 
     #[test]
     fn diagonals_that_clash(rt: HostRuntime) -> Result<(), Fail> {
         let heap = rt.alloc();
-        refuses_as(&rt, heap, 5, &[[0, 2], [0, 2]], Crosses(1), "repeats")?;
-        refuses(&rt, heap, 5, &[[0, 2], [1, 3]], Crosses(1))?;
-        refuses(&rt, heap, 5, &[[1, 3], [0, 2]], Crosses(1))?;
-        refuses_as(
-            &rt,
-            heap,
-            6,
-            &[[0, 3], [0, 2], [1, 4]],
-            Crosses(2),
-            "the first of them",
-        )?;
-        refuses(&rt, heap, 6, &[[0, 2], [2, 4], [2, 4]], Crosses(2))?;
-        refuses_as(
-            &rt,
-            heap,
-            6,
-            &[[0, 2], [1, 3], [0, 1]],
-            Crosses(1),
-            "in their order",
-        )
+        assert_eq!(rt;
+            make(heap, 5, &[[0, 2], [0, 2]])?,
+            Err(Crosses(1)),
+            "repeats"
+        );
+        assert_eq!(rt; make(heap, 5, &[[0, 2], [1, 3]])?, Err(Crosses(1)));
+        assert_eq!(rt; make(heap, 5, &[[1, 3], [0, 2]])?, Err(Crosses(1)));
+        assert_eq!(rt;
+            make(heap, 6, &[[0, 3], [0, 2], [1, 4]])?,
+            Err(Crosses(2)),
+            "the first of them"
+        );
+        assert_eq!(rt; make(heap, 6, &[[0, 2], [2, 4], [2, 4]])?, Err(Crosses(2)));
+        assert_eq!(rt;
+            make(heap, 6, &[[0, 2], [1, 3], [0, 1]])?,
+            Err(Crosses(1)),
+            "in their order"
+        );
+        Ok(())
     }
 
     #[test]

@@ -1,4 +1,5 @@
 -- Answers and tests, legal steps, and steps at the beginning of a walk.
+use Rattle.std.proofs.Math.Facts.{and_yes, yes_and}
 use Rattle.std.proofs.Common.{◌≡◌, ℕ, Bool, true, false, cond, not, ◌&&◌, T as Yes, ltb, eqb, List, [], ◌∷◌, ◌++◌, length, drop, None, Ok, Err, Result, sym, refl, ap, ◌∙◌, arith, ltb→lt, lt→ltb, eqb→eq, eq-eqb}
 use Rattle.triangulations.specs.Triangulations.{Triangulation}
 use Rattle.triangulations.specs.Steps.{Step, L, R, T, S, apply_step, LegalStep, Legal}
@@ -39,26 +40,18 @@ pub err_unless : {A E : Type 0} (b : Bool) (a : A) (f g : E) → cond b (Err f) 
 err_unless true a f g p = sym (same_err f g p)
 err_unless false a f g p = clash a g p
 
-pub and_both : (a b : Bool) → Yes a → Yes b → Yes (a && b)
-and_both true b h k = k
-and_both false b h k = absurd h
-
-pub and_parts : (a b : Bool) → Yes (a && b) → Yes a × Yes b
-and_parts true b h = (tt, h)
-and_parts false b h = absurd h
-
 -- legal steps
 pub legal_yes : (s : Step) (t : Triangulation) → LegalStep s t → Yes (legal s t)
 legal_yes (L e) t h = h
 legal_yes (R e) t h = h
 legal_yes (T e) t h = lt→ltb e t.edges h
-legal_yes (S e f) t h = and_both (ltb e f) (ltb f t.edges) (lt→ltb e f h.0) (lt→ltb f t.edges h.1)
+legal_yes (S e f) t h = yes_and (ltb e f) (ltb f t.edges) (lt→ltb e f h.0) (lt→ltb f t.edges h.1)
 
 pub yes_legal : (s : Step) (t : Triangulation) → Yes (legal s t) → LegalStep s t
 yes_legal (L e) t h = h
 yes_legal (R e) t h = h
 yes_legal (T e) t h = ltb→lt e t.edges h
-yes_legal (S e f) t h = let k = and_parts (ltb e f) (ltb f t.edges) h in (ltb→lt e f k.0, ltb→lt f t.edges k.1)
+yes_legal (S e f) t h = let k = and_yes (ltb e f) (ltb f t.edges) h in (ltb→lt e f k.0, ltb→lt f t.edges k.1)
 
 pub none_illegal : (w : List Step) (t : Triangulation) → Legal w t → first_illegal w t ≡ None
 none_illegal [] t h = refl
@@ -75,7 +68,7 @@ pub same_is : (s s' : Step) → Yes (same_step s s') → s ≡ s'
 same_is (L e) (L f) h = ap L (eqb→eq e f h)
 same_is (R e) (R f) h = ap R (eqb→eq e f h)
 same_is (T e) (T f) h = ap T (eqb→eq e f h)
-same_is (S e f) (S g k) h = let p = and_parts (eqb e g) (eqb f k) h in λ i. S (eqb→eq e g p.0 i) (eqb→eq f k p.1 i)
+same_is (S e f) (S g k) h = let p = and_yes (eqb e g) (eqb f k) h in λ i. S (eqb→eq e g p.0 i) (eqb→eq f k p.1 i)
 same_is (L e) s' h = absurd h
 same_is (R e) s' h = absurd h
 same_is (T e) s' h = absurd h
@@ -89,5 +82,5 @@ pub begins_front : (old w : List Step) → Yes (begins old w) → w ≡ old ++ d
 begins_front [] w h = refl
 begins_front (s ∷ old) [] h = absurd h
 begins_front (s ∷ old) (s' ∷ w) h =
-    let k = and_parts (same_step s s') (begins old w) h in
+    let k = and_yes (same_step s s') (begins old w) h in
     λ i. sym (same_is s s' k.0) i ∷ begins_front old w k.1 i

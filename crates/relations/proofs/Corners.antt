@@ -1,12 +1,11 @@
 -- The place of a pentagon is found by four tests, and there is one at most.
+use Rattle.std.proofs.Math.Dec.{T_not}
+use Rattle.std.proofs.Math.Facts.{and_yes, yes_and}
 use Rattle.std.proofs.Common.{◌≡◌, ℕ, ◌+◌, ◌*◌, ◌%◌, Bool, true, false, cond, ◌&&◌, T as Yes, ◌≢◌, ◌⊎◌, [], ◌∷◌, Some, None, Option, sym, refl, ap, ◌∙◌, subst, inl, inr, arith}
 use native.Mathlib.Decide.{ℕ_discrete}
 use Rattle.triangulations.specs.Triangulations.{Table, Triangulation, Lawful, after, partner, edge_of, together, flippable}
 use Rattle.triangulations.proofs.Triangles.{Disjoint}
-use Rattle.triangulations.proofs.Pairs.{and_l, and_r}
-use Rattle.triangulations.proofs.Flips.{not_yes}
 use Rattle.relations.specs.Pentagons.{corner, first_of, pentagon_at, Pentagon}
-use Rattle.relations.proofs.Beginnings.{and_both}
 use Rattle.relations.proofs.PentagonPlaces.{Among, together_cases, re, rf, differ, next_x, next_y, next_next_y}
 
 no_both : (x y z p c g u : ℕ) → Disjoint (x ∷ y ∷ z ∷ []) (p ∷ c ∷ g ∷ []) → Among u x y z → Among u p c g → ⊥
@@ -59,7 +58,7 @@ module _ (t : Triangulation) (law : Lawful t) (e f x y : ℕ) (at : Pentagon t.n
       go (inl p) (inl q) = (p, q)
       go (inl p) (inr q) = absurd (no_both _ _ _ _ _ _ (partner y) (rf t law e f x y at).split (around (partner y) (seen x (partner y) p q)) (inl refl))
       go (inr p) (inl q) = absurd (no_both _ _ _ _ _ _ y (re t law e f x y at).split (together_cases n x y at.shared) (together_cases n (partner x) y (seen (partner x) y p q)))
-      go (inr p) (inr q) = absurd (not_yes _ at.only (seen (partner x) (partner y) p q))
+      go (inr p) (inr q) = absurd (T_not _ at.only (seen (partner x) (partner y) p q))
 
 -- the four tests
 from_corner : (t : Table) (e f : ℕ) → Yes (flippable t e) → Yes (flippable t f) → (x y : ℕ) → edge_of x ≡ e → edge_of y ≡ f → Yes (corner t x y) → Pentagon t e f x y
@@ -69,13 +68,13 @@ from_corner t e f he hf x y p q h = record {
   f_flips = hf;
   x_of = p;
   y_of = q;
-  shared = and_l (together t x y) _ h;
-  only = and_r (together t x y) _ h;
+  shared = (and_yes (together t x y) _ h).0;
+  only = (and_yes (together t x y) _ h).1;
 }
 
 to_corner : (t : Table) (e f x y : ℕ) → Pentagon t e f x y → Yes (corner t x y)
 unfolding corner
-to_corner t e f x y at = and_both (together t x y) _ at.shared at.only
+to_corner t e f x y at = yes_and (together t x y) _ at.shared at.only
 
 abbrev pub Found : Table → ℕ → ℕ → Option (ℕ × ℕ) → Type 0
 Found t e f None = (x y : ℕ) → Pentagon t e f x y → ⊥

@@ -1,11 +1,13 @@
 -- The place of a pentagon: the names of its nine darts.
+use Rattle.std.proofs.Math.Facts.{or_yes}
+use Rattle.std.proofs.Math.Dec.{T_not}
 use Rattle.std.proofs.Common.{◌≡◌, ℕ, ◌+◌, ◌*◌, ◌%◌, Bool, true, false, cond, not, ◌||◌, T as Yes, eqb, ◌≢◌, ◌⊎◌, List, [], ◌∷◌, sym, refl, ap, ◌∙◌, subst, inl, inr, arith, eqb→eq, eq-eqb, ne_eqb}
 use native.Mathlib.Decide.{ℕ_discrete}
 use Rattle.triangulations.specs.Triangulations.{Table, Triangulation, Lawful, after, partner, edge_of, together, flippable}
 use Rattle.triangulations.proofs.Frames.{after_is}
 use Rattle.triangulations.proofs.Triangles.{nth, Fresh, Disjoint, Tri, tri_disjoint, tri_distinct}
 use Rattle.triangulations.proofs.Pairs.{Framed, turned_round}
-use Rattle.triangulations.proofs.Flips.{flip_parts, inside_tri, together_fresh, not_yes}
+use Rattle.triangulations.proofs.Flips.{flip_parts, inside_tri, together_fresh}
 use Rattle.triangulations.proofs.Relabellings.{partner_edge}
 use Rattle.relations.specs.Pentagons.{mixed, followed, Pentagon}
 use Rattle.relations.proofs.Triples.{σ₉, framed₃}
@@ -14,13 +16,9 @@ use Rattle.relations.proofs.Triples.{σ₉, framed₃}
 abbrev pub Among : ℕ → ℕ → ℕ → ℕ → Type 0
 Among u x y z = (u ≡ x) ⊎ ((u ≡ y) ⊎ (u ≡ z))
 
-or_elim : (a b : Bool) → Yes (a || b) → Yes a ⊎ Yes b
-or_elim true b h = inl tt
-or_elim false b h = inr h
-
 pub together_cases : (t : Table) (d x : ℕ) → Yes (together t d x) → Among x d (after t d) (after t (after t d))
 unfolding together
-together_cases t d x h = go (or_elim (eqb x d) _ h)
+together_cases t d x h = go (or_yes (eqb x d) _ h)
   where
     go₂ : Yes (eqb x (after t d)) ⊎ Yes (eqb x (after t (after t d))) → Among x d (after t d) (after t (after t d))
     go₂ (inl e) = inr (inl (eqb→eq x _ e))
@@ -28,7 +26,7 @@ together_cases t d x h = go (or_elim (eqb x d) _ h)
 
     go : Yes (eqb x d) ⊎ Yes (eqb x (after t d) || eqb x (after t (after t d))) → Among x d (after t d) (after t (after t d))
     go (inl e) = inl (eqb→eq x d e)
-    go (inr e) = go₂ (or_elim (eqb x (after t d)) _ e)
+    go (inr e) = go₂ (or_yes (eqb x (after t d)) _ e)
 
 together_self : (t : Table) (d : ℕ) → Yes (together t d d)
 unfolding together
@@ -128,7 +126,7 @@ module _ (t : Triangulation) (law : Lawful t) (e f x y : ℕ) (at : Pentagon t.n
   differ q = clash (together_cases n x y at.shared)
     where
       same_side : y ≡ x → ⊥
-      same_side r = not_yes _ at.only (subst (λ z. Yes (together n (partner x) (partner z))) (sym r) (together_self n (partner x)))
+      same_side r = T_not _ at.only (subst (λ z. Yes (together n (partner x) (partner z))) (sym r) (together_self n (partner x)))
 
       other_side : y ≢ x → y ≡ partner x
       other_side r = let k = at.x_of in let l = at.y_of in omega arith

@@ -1,10 +1,11 @@
 -- The pentagon on tables: the five flips are legal, and lead where the swap and the turns lead.
+use Rattle.std.proofs.Math.Facts.{and_yes}
 use Rattle.std.proofs.Common.{◌≡◌, ℕ, ◌<◌, min, max, Bool, true, false, cond, not, ◌&&◌, T as Yes, eqb, ◌∷◌, sym, ◌∙◌, subst, lit<}
 use Rattle.triangulations.specs.Triangulations.{Table, Triangulation, flippable}
 use Rattle.triangulations.specs.Steps.{left, L, T, S, stepped, leads}
 use Rattle.triangulations.specs.Stored.{all_below}
 use Rattle.triangulations.proofs.Frames.{Seen, flip, cond_below, same_below, seen_same}
-use Rattle.triangulations.proofs.Pairs.{and_l, and_r, exch, seen_step_flip, seen_turn}
+use Rattle.triangulations.proofs.Pairs.{exch, seen_step_flip, seen_turn}
 use Rattle.triangulations.proofs.Flips.{tog, seen_flippable}
 use Rattle.triangulations.proofs.Undoing.{with_table}
 use Rattle.relations.specs.Pentagons.{five, turns, swap_and_turns}
@@ -17,8 +18,8 @@ abbrev both : (Bool → Bool) → Bool
 both p = p true && p false
 
 both_at : (p : Bool → Bool) → Yes (both p) → (b : Bool) → Yes (p b)
-both_at p h true = and_l (p true) (p false) h
-both_at p h false = and_r (p true) (p false) h
+both_at p h true = (and_yes (p true) (p false) h).0
+both_at p h false = (and_yes (p true) (p false) h).1
 
 eight : (p : Bool → Bool → Bool → Bool) → Yes (both (λ o. both (λ a. both (p o a)))) → (o a b : Bool) → Yes (p o a b)
 eight p h o a b = both_at (p o a) (both_at (λ a. both (p o a)) (both_at (λ o. both (λ a. both (p o a))) h o) a) b

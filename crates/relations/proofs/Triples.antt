@@ -1,11 +1,12 @@
 -- The frames of three and of four triangles, and swaps of named edges.
+use Rattle.std.proofs.lemmas.Bool.{cond-false, cond-true}
 use Rattle.std.proofs.Common.{◌≡◌, ℕ, ◌+◌, ◌*◌, ◌<◌, Bool, true, false, cond, eqb, ◌≢◌, List, [], ◌∷◌, ◌++◌, Some, sym, refl, ap, ◌∙◌, eq-eqb, ne_eqb}
 use native.Mathlib.Decide.{ℕ_discrete}
 use Rattle.triangulations.specs.Triangulations.{Table, Triangulation, Lawful}
 use Rattle.triangulations.specs.Steps.{exchanged, swap, relabelled}
 use Rattle.triangulations.proofs.Frames.{Closed, Apart, Off, Seen, tri, seen_relabel}
 use Rattle.triangulations.proofs.Triangles.{nth, Fresh, Distinct, Disjoint, fresh-++, distinct-++, apart, each, Tri, tri_distinct, tri_disjoint}
-use Rattle.triangulations.proofs.Pairs.{swap_other, cond_no, cond_yes, Framed, framed, distinct₂}
+use Rattle.triangulations.proofs.Pairs.{swap_other, Framed, framed, distinct₂}
 use Rattle.triangulations.proofs.Relabellings.{exchanged_first, exchanged_second, swap_even, swap_odd}
 
 abbrev pub exch₂ : ℕ → ℕ → ℕ → ℕ → ℕ → ℕ
@@ -38,16 +39,16 @@ module _ (φ : ℕ → ℕ) (n : ℕ) (ap-φ : Apart n φ) (t₀ : Table) (far :
       r₁ = cond (eqb k j) j' r₂
 
       n₀ : k ≢ i → exch₂ i j i' j' k ≡ r₁
-      n₀ q = cond_no (eqb k i) i' r₁ (ne_eqb k i q)
+      n₀ q = cond-false (eqb k i) i' r₁ (ne_eqb k i q)
 
       n₁ : k ≢ j → r₁ ≡ r₂
-      n₁ q = cond_no (eqb k j) j' r₂ (ne_eqb k j q)
+      n₁ q = cond-false (eqb k j) j' r₂ (ne_eqb k j q)
 
       n₂ : k ≢ i' → r₂ ≡ r₃
-      n₂ q = cond_no (eqb k i') i r₃ (ne_eqb k i' q)
+      n₂ q = cond-false (eqb k i') i r₃ (ne_eqb k i' q)
 
       n₃ : k ≢ j' → r₃ ≡ k
-      n₃ q = cond_no (eqb k j') j k (ne_eqb k j' q)
+      n₃ q = cond-false (eqb k j') j k (ne_eqb k j' q)
 
       to_f : (s : ℕ → ℕ) (d : ℕ) → swap e f d ≡ s (exchanged e f e) → swap e f d ≡ s f
       to_f s d p = p ∙ ap s (exchanged_first e f e refl)
@@ -56,15 +57,15 @@ module _ (φ : ℕ → ℕ) (n : ℕ) (ap-φ : Apart n φ) (t₀ : Table) (far :
       to_e s d p = p ∙ ap s (exchanged_second e f f refl)
 
       go : Dec (k ≡ i) → Dec (k ≡ j) → Dec (k ≡ i') → Dec (k ≡ j') → swap e f (φ k) ≡ φ (exch₂ i j i' j' k)
-      go (yes q) b c d = ap (swap e f) (ap φ q ∙ sym di) ∙ (to_f (λ m. 2 * m) _ (swap_even e f e) ∙ (di' ∙ ap φ (sym (cond_yes (eqb k i) i' r₁ (eq-eqb k i q)))))
+      go (yes q) b c d = ap (swap e f) (ap φ q ∙ sym di) ∙ (to_f (λ m. 2 * m) _ (swap_even e f e) ∙ (di' ∙ ap φ (sym (cond-true (eqb k i) i' r₁ (eq-eqb k i q)))))
       go (no a) (yes q) c d =
-          ap (swap e f) (ap φ q ∙ sym dj) ∙ (to_f (λ m. 2 * m + 1) _ (swap_odd e f e) ∙ (dj' ∙ ap φ (sym (n₀ a ∙ cond_yes (eqb k j) j' r₂ (eq-eqb k j q)))))
+          ap (swap e f) (ap φ q ∙ sym dj) ∙ (to_f (λ m. 2 * m + 1) _ (swap_odd e f e) ∙ (dj' ∙ ap φ (sym (n₀ a ∙ cond-true (eqb k j) j' r₂ (eq-eqb k j q)))))
       go (no a) (no b) (yes q) d =
           ap (swap e f) (ap φ q ∙ sym di')
-          ∙ (to_e (λ m. 2 * m) _ (swap_even e f f) ∙ (di ∙ ap φ (sym (n₀ a ∙ (n₁ b ∙ cond_yes (eqb k i') i r₃ (eq-eqb k i' q))))))
+          ∙ (to_e (λ m. 2 * m) _ (swap_even e f f) ∙ (di ∙ ap φ (sym (n₀ a ∙ (n₁ b ∙ cond-true (eqb k i') i r₃ (eq-eqb k i' q))))))
       go (no a) (no b) (no c) (yes q) =
           ap (swap e f) (ap φ q ∙ sym dj')
-          ∙ (to_e (λ m. 2 * m + 1) _ (swap_odd e f f) ∙ (dj ∙ ap φ (sym (n₀ a ∙ (n₁ b ∙ (n₂ c ∙ cond_yes (eqb k j') j k (eq-eqb k j' q)))))))
+          ∙ (to_e (λ m. 2 * m + 1) _ (swap_odd e f f) ∙ (dj ∙ ap φ (sym (n₀ a ∙ (n₁ b ∙ (n₂ c ∙ cond-true (eqb k j') j k (eq-eqb k j' q)))))))
       go (no a) (no b) (no c) (no d) =
           swap_other e f (φ k) (λ s. a (ap-φ k i h hi (s ∙ di))) (λ s. b (ap-φ k j h hj (s ∙ dj))) (λ s. c (ap-φ k i' h hi' (s ∙ di'))) (λ s. d (ap-φ k j' h hj' (s ∙ dj')))
           ∙ ap φ (sym (n₀ a ∙ (n₁ b ∙ (n₂ c ∙ n₃ d))))

@@ -1,26 +1,16 @@
--- The tests by which a pentagon is found.
-use Rattle.std.proofs.Common.{◌≡◌, ℕ, ◌+◌, ◌*◌, Bool, true, false, cond, not, ◌&&◌, None, ap, ◌∙◌}
-use Rattle.triangulations.specs.Triangulations.{Table, partner, together, flippable}
-use Rattle.relations.specs.Pentagons.{corner, corner_of, pentagon_at}
+-- The first of the four pairs of darts that make a corner.
+use Rattle.std.proofs.Common.{◌≡◌, ℕ, Bool, true, false, cond, [], ◌∷◌, Some, Option, refl}
+use Rattle.std.specs.List.{find}
+use Rattle.triangulations.specs.Triangulations.{Table}
+use Rattle.relations.specs.Pentagons.{first_of, corner, corner_of}
 
-module _ (t : Table) (x y : ℕ) where
-  pub corner_tested : (p q : ℕ) (r : Bool) → true ≡ together t x y → p ≡ partner x → q ≡ partner y → r ≡ together t p q → not r ≡ corner t x y
-  unfolding corner
-  corner_tested p q r h a b e = ap not (e ∙ (λ i. together t (a i) (b i))) ∙ (λ i. h i && not (together t (partner x) (partner y)))
+first_is : {A : Type 0} (b : Bool) (x : A) (r s : Option A) → r ≡ s → cond b (Some x) r ≡ first_of b x s
+first_is true x r s e = refl
+first_is false x r s e = e
 
-  pub corner_missed : false ≡ together t x y → false ≡ corner t x y
-  unfolding corner
-  corner_missed h = λ i. h i && not (together t (partner x) (partner y))
-
-module _ (t : Table) (e f : ℕ) where
-  pub pentagon_tested : true ≡ flippable t e → true ≡ flippable t f → corner_of t (2 * e) (2 * e + 1) (2 * f) (2 * f + 1) ≡ pentagon_at t e f
-  unfolding pentagon_at
-  pentagon_tested a b = λ i. cond (a i && b i) (corner_of t (2 * e) (2 * e + 1) (2 * f) (2 * f + 1)) None
-
-  pub pentagon_missed : false ≡ flippable t e → None ≡ pentagon_at t e f
-  unfolding pentagon_at
-  pentagon_missed a = λ i. cond (a i && flippable t f) (corner_of t (2 * e) (2 * e + 1) (2 * f) (2 * f + 1)) None
-
-  pub pentagon_other_missed : true ≡ flippable t e → false ≡ flippable t f → None ≡ pentagon_at t e f
-  unfolding pentagon_at
-  pentagon_other_missed a b = λ i. cond (a i && b i) (corner_of t (2 * e) (2 * e + 1) (2 * f) (2 * f + 1)) None
+pub corner_found : (t : Table) (d p c q : ℕ) → find (λ z. corner t z.0 z.1) ((d, c) ∷ (d, q) ∷ (p, c) ∷ (p, q) ∷ []) ≡ corner_of t d p c q
+corner_found t d p c q =
+    first_is (corner t d c) (d, c) _ _
+    (first_is (corner t d q) (d, q) _ _
+    (first_is (corner t p c) (p, c) _ _
+    (first_is (corner t p q) (p, q) _ _ refl)))

@@ -1,22 +1,16 @@
 -- Steps done one after the other, as far as they are legal.
-use Rattle.std.proofs.Common.{◌≡◌, ℕ, ◌+◌, ◌<◌, ◌≤◌, List, [], ◌∷◌, ◌++◌, map, length, get_or, take, drop, Some, sym, refl, ap, ◌∙◌, subst, arith}
+use Rattle.std.proofs.Common.{◌≡◌, ℕ, ◌+◌, ◌<◌, ◌≤◌, Bool, true, false, if◌then◌else◌, Decides, List, [], ◌∷◌, ◌++◌, map, length, get_or, take, drop, Some, sym, ap, ◌∙◌, subst, arith}
 use lib.Dec.{not_T}
+use Rattle.std.proofs.lemmas.Bool.Decides.{not_from_Decides}
 use Rattle.std.proofs.lemmas.List.{take_more, take_all, drop_more, take-append-drop, get_or-map, length-map, length-take}
 use Rattle.triangulations.specs.Triangulations.{Triangulation}
 use Rattle.triangulations.specs.Steps.{Step, T, apply_step, leads, LegalStep, Legal}
 use Rattle.triangulations.specs.Meaning.{meant}
 use Rattle.triangulations.specs.declared.step.Step.{Step as Named}
 use Rattle.relations.specs.Judging.{legal, first_illegal, one_more}
+use Rattle.relations.proofs.Walking.{leads-++, ++-legal}
 use Rattle.relations.proofs.Beginnings.{when_yes, when_no, legal_yes, yes_legal, none_illegal}
 use Rattle.rewriting.specs.Replays.{before, reached}
-
-leads_push : (w : List Step) (s : Step) (t : Triangulation) → leads (w ++ s ∷ []) t ≡ apply_step s (leads w t)
-leads_push [] s t = refl
-leads_push (x ∷ w) s t = leads_push w s (apply_step x t)
-
-legal_push : (w : List Step) (s : Step) (t : Triangulation) → Legal w t → LegalStep s (leads w t) → Legal (w ++ s ∷ []) t
-legal_push [] s t h k = (k, tt)
-legal_push (x ∷ w) s t h k = (h.0, legal_push w s (apply_step x t) h.1 k)
 
 -- a step that is not legal after those that are
 illegal_at : (w : List Step) (s : Step) (rest : List Step) (t : Triangulation) → Legal w t → (LegalStep s (leads w t) → ⊥) → first_illegal (w ++ (s ∷ rest)) t ≡ Some (length w)
@@ -37,16 +31,16 @@ module _ (w : List Step) (t u : Triangulation) (k : ℕ) (s : Step) (within : k 
   longer : take (k + 1) w ≡ take k w ++ (s ∷ [])
   longer = take_more w k (T 0) within ∙ ap (λ m. take k w ++ (m ∷ [])) here
 
-  pub walked_more : (v : Triangulation) → LegalStep s u → v ≡ apply_step s u → Walked (take (k + 1) w) t v
-  walked_more v h e =
+  walked : (v : Triangulation) → LegalStep s u → v ≡ apply_step s u → Walked (take (k + 1) w) t v
+  walked v h e =
       let P : List Step → Type 0 = λ p. Legal p t in
       let F : Triangulation → Type 0 = λ x. LegalStep s x in
       record {
-        legal = subst P (sym longer) (legal_push (take k w) s t so_far.legal (subst F so_far.leads_there h));
-        leads_there = e ∙ (ap (apply_step s) so_far.leads_there ∙ (sym (leads_push (take k w) s t) ∙ ap (λ p. leads p t) (sym longer)));
+        legal = subst P (sym longer) (++-legal (take k w) (s ∷ []) t so_far.legal (subst F so_far.leads_there h, tt));
+        leads_there = e ∙ (ap (apply_step s) so_far.leads_there ∙ (sym (leads-++ (take k w) (s ∷ []) t) ∙ ap (λ p. leads p t) (sym longer)));
       }
 
-  pub stops : (v : Triangulation) → (LegalStep s u → ⊥) → v ≡ u → Told w t v k
+  stops : (v : Triangulation) → (LegalStep s u → ⊥) → v ≡ u → Told w t v k
   stops v never e =
       let F : Triangulation → Type 0 = λ x. LegalStep s x in
       let told = sym (ap (λ p. first_illegal p t) parts ∙ (illegal_at (take k w) s (drop (k + 1) w) t so_far.legal (λ h. never (subst F (sym so_far.leads_there) h)) ∙ ap Some long)) in
@@ -57,6 +51,14 @@ module _ (w : List Step) (t u : Triangulation) (k : ℕ) (s : Step) (within : k 
 
       long : length (take k w) ≡ k
       long = length-take k w ∙ omega arith
+
+  -- the step was done, if it is legal
+  module _ (v : Triangulation) (b : Bool) (legal : Decides b (LegalStep s u)) (moved : v ≡ (if b then apply_step s u else u)) where
+    pub walked_more : b ≡ true → Walked (take (k + 1) w) t v
+    walked_more done = walked v (legal.0 done) (moved ∙ ap (λ r. if r then apply_step s u else u) done)
+
+    pub stopped : b ≡ false → Told w t v k
+    stopped refused = stops v (not_from_Decides b legal refused) (moved ∙ ap (λ r. if r then apply_step s u else u) refused)
 
 -- all steps are done
 pub walked_all : (w : List Step) (t u : Triangulation) (k : ℕ) → length w ≤ k → Walked (take k w) t u → Walked w t u

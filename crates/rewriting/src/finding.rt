@@ -7,51 +7,39 @@ ghost use Rattle.rewriting.specs.Rewritten.{flip_in, left_in, turn_in};
 use triangulations::darts::Edge;
 use triangulations::step::{Flip, Label, Side, Step};
 
-// The flip that a step is.
-pub fn flip_in(step: Option<Step>) -> Option<Flip>
+// Each names one pattern: one function for all would take the pattern as a closure, and be no shorter.
+
+/// The flip that a step is.
+pub fn flip_in(step: Step) -> Option<Flip>
     ensures { result ≡ flip_in step }
 {
     match step {
-        Some(Step::Flip(flip)) => Some(flip),
-        _ => None,
+        Step::Flip(flip) => Some(flip),
+        Step::Label(_) => None,
     }
 }
 
-// The edge that a left flip flips.
-pub fn left_in(flip: Option<Flip>) -> Option<Edge>
-    ensures { result ≡ left_in flip }
+/// The edge that a left flip flips.
+pub fn left_in(step: Step) -> Option<Edge>
+    ensures { result ≡ left_in step }
 {
-    match flip {
-        Some(flip) => match flip.side {
-            Side::Left => Some(flip.edge),
-            Side::Right => None,
-        },
-        None => None,
-    }
+    let flip = flip_in(step)?;
+    (flip.side == Side::Left).then_some(flip.edge)
 }
 
-// The edge that a turn turns.
-pub fn turn_in(step: Option<Step>) -> Option<Edge>
+/// The edge that a turn turns.
+pub fn turn_in(step: Step) -> Option<Edge>
     ensures { result ≡ turn_in step }
 {
     match step {
-        Some(Step::Label(Label::Turn(edge))) => Some(edge),
+        Step::Label(Label::Turn(edge)) => Some(edge),
         _ => None,
     }
 }
 
-// Whether a turn passes the step.
+/// Whether a turn passes the step.
 pub fn is_passed(step: Step) -> bool
     ensures { result ≡ passed (meant step) }
 {
-    match step {
-        Step::Flip(flip) => match flip.side {
-            Side::Left => true,
-            Side::Right => true,
-        },
-        Step::Label(label) => match label {
-            Label::Turn(_) => true,
-            Label::Swap(_, _) => false,
-        },
-    }
+    !matches!(step, Step::Label(Label::Swap(..)))
 }

@@ -7,4 +7,5 @@ pub mod pentagon;
 pub mod replay;
 pub mod rewrite;
 mod rules;
-mod run;
+pub mod run;
+mod site;

@@ -1,146 +1,107 @@
-//! What each rule does at a place of the walk, but for carry over. `there` is the triangulation at the place.
-ghost use Rattle.std.specs.Prelude.{◌≡◌, ◌+◌, ◌≤◌, map, length, None, Ok};
-ghost use Rattle.triangulations.specs.Meaning.{meant};
-ghost use Rattle.triangulations.specs.Boards.{on};
-ghost use Rattle.rewriting_records.specs.declared.record.Rewriting.TheVariants.{InsertPair};
-ghost use Rattle.relations.specs.Pentagons.{pentagon_at};
-ghost use Rattle.relations.specs.Judging.{dropped, joined, split, flipped_edge, parted, of_two, closed, opened, change};
-ghost use Rattle.walks.specs.Walks.{held, moves};
-ghost use Rattle.rewriting.specs.Rewritten.{Answers, move_at, done};
-
+//! What each rule does at a place of the walk, but for carry over.
 use crate::finding::{flip_in, left_in, turn_in};
-use crate::pentagon::{five_flips, left, pentagon_at, swap_and_turns, turn};
+use crate::pentagon::{five_flips, pentagon_at, swap_and_turns};
+use crate::run::SwapAndTurns;
+use crate::site::Site;
 use rewriting_records::fault::RewritingFault;
-use triangulations::board::Board;
 use triangulations::darts::Edge;
 use triangulations::step::Step;
-use walks::walk::Walk;
 
-// Puts `new` in place of `old`, where the steps from the place on begin with it.
-pub fn substitute(
-    walk: &mut Walk,
-    place: usize,
-    old: &[Step],
-    new: &[Step],
-) -> Result<(), RewritingFault>
-    requires { place ≤ length (held walk.old) }
-    ensures { Answers (held walk.old) result (held walk.new) (done place (moves walk.old) (Ok (record { old = map meant old.entry.now; new = map meant new.now }))) }
-{
-    if !walk.begins(place, old) {
-        return Err(RewritingFault::NoForm { place });
-    }
-    if !walk.replace(place, old.len(), new) {
-        return Err(RewritingFault::TooLong);
-    }
-    Ok(())
-}
+impl Site<'_> {
+    ghost use Rattle.std.specs.Prelude.{◌≡◌, map, None, Ok};
+    ghost use Rattle.triangulations.specs.Meaning.{meant};
+    ghost use Rattle.triangulations.specs.Boards.{on};
+    ghost use Rattle.rewriting_records.specs.declared.record.Rewriting.TheVariants.{InsertPair};
+    ghost use Rattle.relations.specs.Pentagons.{pentagon_at};
+    ghost use Rattle.relations.specs.Judging.{dropped, joined, split, flipped_edge, parted, of_two, closed, opened, change};
+    ghost use Rattle.rewriting.specs.Rewritten.{run_meant, turned_swap};
+    ghost use Rattle.rewriting.specs.Sites.{first, second, Makes};
 
-// Two steps of which the second undoes the first are dropped.
-pub fn drop_pair(walk: &mut Walk, place: usize) -> Result<(), RewritingFault>
-    requires { place ≤ length (held walk.old) }
-    ensures { Answers (held walk.old) result (held walk.new) (done place (moves walk.old) (dropped place (move_at walk.old place))) }
-{
-    let Some(first) = walk.get(place) else {
-        return Err(RewritingFault::NoForm { place });
-    };
-    substitute(walk, place, &[first, first.inverse()], &[])
-}
-
-// A step that is legal there is put in, and the one that undoes it.
-pub fn insert_pair(
-    there: &mut Board,
-    walk: &mut Walk,
-    place: usize,
-    step: Step,
-) -> Result<(), RewritingFault>
-    requires { place ≤ length (held walk.old) }
-    ensures { Answers (held walk.old) result (held walk.new) (done place (moves walk.old) (change place (on there.old) (InsertPair step) None None)) }
-{
-    if !there.step(step) {
-        return Err(RewritingFault::NoCondition { place });
-    }
-    substitute(walk, place, &[], &[step, step.inverse()])
-}
-
-// Two left flips of an edge become its turn.
-pub fn join_double(walk: &mut Walk, place: usize) -> Result<(), RewritingFault>
-    requires { place ≤ length (held walk.old) }
-    ensures { Answers (held walk.old) result (held walk.new) (done place (moves walk.old) (joined place (move_at walk.old place))) }
-{
-    let Some(edge) = left_in(flip_in(walk.get(place))) else {
-        return Err(RewritingFault::NoForm { place });
-    };
-    substitute(walk, place, &[left(edge), left(edge)], &[turn(edge)])
-}
-
-// The turn of an edge that can be flipped there becomes two left flips.
-pub fn split_double(there: &Board, walk: &mut Walk, place: usize) -> Result<(), RewritingFault>
-    requires { place ≤ length (held walk.old) }
-    ensures { Answers (held walk.old) result (held walk.new) (done place (moves walk.old) (split place (on there.now).next (move_at walk.old place))) }
-{
-    match turn_in(walk.get(place)) {
-        Some(edge) if there.is_flippable(edge) => {
-            substitute(walk, place, &[turn(edge)], &[left(edge), left(edge)])
+    /// Puts `new` in place of `old`, where the steps from the place on begin with it.
+    pub fn substitute(&mut self, old: &[Step], new: &[Step]) -> Result<(), RewritingFault>
+        ensures { Makes self.old self.new result (Ok (record { old = map meant old.now; new = map meant new.now })) }
+    {
+        let place = self.place;
+        if !self.walk.begins(place, old) {
+            return Err(self.no_form());
         }
-        Some(_) => Err(RewritingFault::NoCondition { place }),
-        None => Err(RewritingFault::NoForm { place }),
+        self.walk
+            .replace(place, old.len(), new)
+            .map_err(|_| RewritingFault::TooLong)
     }
-}
 
-// Two flips whose edges share no triangle there change places.
-pub fn exchange(there: &Board, walk: &mut Walk, place: usize) -> Result<(), RewritingFault>
-    requires { place ≤ length (held walk.old) }
-    ensures { Answers (held walk.old) result (held walk.new) (done place (moves walk.old) (of_two place (λ s s'. parted place (on there.now).next s s' (flipped_edge s) (flipped_edge s')) (move_at walk.old place) (move_at walk.old (place + 1)))) }
-{
-    let Some(first) = flip_in(walk.get(place)) else {
-        return Err(RewritingFault::NoForm { place });
-    };
-    let Some(second) = flip_in(walk.get(place + 1)) else {
-        return Err(RewritingFault::NoForm { place });
-    };
-    if there.shares(first.edge, second.edge) {
-        return Err(RewritingFault::NoCondition { place });
+    /// Two steps of which the second undoes the first are dropped.
+    pub fn drop_pair(&mut self) -> Result<(), RewritingFault>
+        ensures { Makes self.old self.new result (dropped self.old.place (first self.old)) }
+    {
+        let first = self.first()?;
+        self.substitute(&[first, first.inverse()], &[])
     }
-    substitute(
-        walk,
-        place,
-        &[Step::Flip(first), Step::Flip(second)],
-        &[Step::Flip(second), Step::Flip(first)],
-    )
-}
 
-// Five left flips in turn become a swap and turns, where the two edges make a pentagon there.
-pub fn close_pentagon(
-    there: &Board,
-    walk: &mut Walk,
-    place: usize,
-    e: Edge,
-    f: Edge,
-) -> Result<(), RewritingFault>
-    requires { place ≤ length (held walk.old) }
-    ensures { Answers (held walk.old) result (held walk.new) (done place (moves walk.old) (closed place (on there.now).next e f (pentagon_at (on there.now).next e f))) }
-{
-    let Some((x, y)) = pentagon_at(there, e, f) else {
-        return Err(RewritingFault::NoCondition { place });
-    };
-    let run = swap_and_turns(there, e, f, x, y);
-    substitute(walk, place, &five_flips(e, f), run.as_slice())
-}
+    /// A step that is legal there is put in, and the one that undoes it.
+    pub fn insert_pair(&mut self, step: Step) -> Result<(), RewritingFault>
+        ensures { Makes self.old self.new result (change self.old.place (on self.old.there.now) (InsertPair step) None None) }
+    {
+        self.there.step(step).or(Err(self.no_condition()))?;
+        self.substitute(&[], &[step, step.inverse()])
+    }
 
-// A swap and turns become five left flips in turn, where the two edges make a pentagon there.
-pub fn open_pentagon(
-    there: &Board,
-    walk: &mut Walk,
-    place: usize,
-    e: Edge,
-    f: Edge,
-) -> Result<(), RewritingFault>
-    requires { place ≤ length (held walk.old) }
-    ensures { Answers (held walk.old) result (held walk.new) (done place (moves walk.old) (opened place (on there.now).next e f (pentagon_at (on there.now).next e f))) }
-{
-    let Some((x, y)) = pentagon_at(there, e, f) else {
-        return Err(RewritingFault::NoCondition { place });
-    };
-    let run = swap_and_turns(there, e, f, x, y);
-    substitute(walk, place, run.as_slice(), &five_flips(e, f))
+    /// Two left flips of an edge become its turn.
+    pub fn join_double(&mut self) -> Result<(), RewritingFault>
+        ensures { Makes self.old self.new result (joined self.old.place (first self.old)) }
+    {
+        let edge = left_in(self.first()?).ok_or(self.no_form())?;
+        self.substitute(&[Step::left(edge), Step::left(edge)], &[Step::turn(edge)])
+    }
+
+    /// The turn of an edge that can be flipped there becomes two left flips.
+    pub fn split_double(&mut self) -> Result<(), RewritingFault>
+        ensures { Makes self.old self.new result (split self.old.place (on self.old.there.now).next (first self.old)) }
+    {
+        let edge = turn_in(self.first()?).ok_or(self.no_form())?;
+        if !self.there.is_flippable(edge) {
+            return Err(self.no_condition());
+        }
+        self.substitute(&[Step::turn(edge)], &[Step::left(edge), Step::left(edge)])
+    }
+
+    /// Two flips whose edges share no triangle there change places.
+    pub fn exchange(&mut self) -> Result<(), RewritingFault>
+        ensures { Makes self.old self.new result (of_two self.old.place (λ s s'. parted self.old.place (on self.old.there.now).next s s' (flipped_edge s) (flipped_edge s')) (first self.old) (second self.old)) }
+    {
+        let first = flip_in(self.first()?).ok_or(self.no_form())?;
+        let second = flip_in(self.second()?).ok_or(self.no_form())?;
+        if self.there.shares(first.edge, second.edge) {
+            return Err(self.no_condition());
+        }
+        self.substitute(
+            &[Step::Flip(first), Step::Flip(second)],
+            &[Step::Flip(second), Step::Flip(first)],
+        )
+    }
+
+    // What the one way of a pentagon takes out the other puts in: a line each, and what they share is `turned_swap`.
+    /// Five left flips in turn become a swap and turns, where the two edges make a pentagon there.
+    pub fn close_pentagon(&mut self, e: Edge, f: Edge) -> Result<(), RewritingFault>
+        ensures { Makes self.old self.new result (closed self.old.place (on self.old.there.now).next e f (pentagon_at (on self.old.there.now).next e f)) }
+    {
+        let swap = self.turned_swap(e, f)?;
+        self.substitute(&five_flips(e, f), swap.as_slice())
+    }
+
+    /// A swap and turns become five left flips in turn, where the two edges make a pentagon there.
+    pub fn open_pentagon(&mut self, e: Edge, f: Edge) -> Result<(), RewritingFault>
+        ensures { Makes self.old self.new result (opened self.old.place (on self.old.there.now).next e f (pentagon_at (on self.old.there.now).next e f)) }
+    {
+        let swap = self.turned_swap(e, f)?;
+        self.substitute(swap.as_slice(), &five_flips(e, f))
+    }
+
+    // The swap and turns that the five flips of two edges amount to, where they make a pentagon there.
+    fn turned_swap(&self, e: Edge, f: Edge) -> Result<SwapAndTurns, RewritingFault>
+        ensures { run_meant result ≡ turned_swap self.now.place (on self.now.there.now).next e f (pentagon_at (on self.now.there.now).next e f) }
+    {
+        let (x, y) = pentagon_at(self.there, e, f).ok_or(self.no_condition())?;
+        Ok(swap_and_turns(self.there, e, f, x, y))
+    }
 }

@@ -1,20 +1,25 @@
-ghost use Rattle.std.specs.Prelude.{◌≡◌, ◌≤◌, length, take};
+ghost use Rattle.std.specs.Prelude.{◌≡◌};
+ghost use Rattle.rewriting.specs.Rewritten.{steps_of};
 
 use triangulations::step::Step;
 
-/// At most three steps.
+/// A swap, and at most two turns after it.
 #[derive(Clone, Copy)]
-pub struct Run {
-    pub(crate) steps: [Step; 3],
-    pub(crate) len: usize,
-    ghost few: { len ≤ 3 },
-    ghost full: { length steps ≡ 3 },
+pub enum SwapAndTurns {
+    Swap([Step; 1]),
+    OneTurn([Step; 2]),
+    TwoTurns([Step; 3]),
 }
 
-impl Run {
+impl SwapAndTurns {
+    /// Its steps in turn.
     pub fn as_slice(&self) -> &[Step]
-        ensures { result.now ≡ take self.now.len self.now.steps }
+        ensures { result.now ≡ steps_of self.now }
     {
-        &self.steps[..self.len]
+        match self {
+            SwapAndTurns::Swap(steps) => steps,
+            SwapAndTurns::OneTurn(steps) => steps,
+            SwapAndTurns::TwoTurns(steps) => steps,
+        }
     }
 }

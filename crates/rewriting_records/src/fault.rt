@@ -22,6 +22,7 @@ pub enum RewritingFault {
 
 impl RewritingFault {
     /// The number of the refusal.
+    // A number, since it is what is printed; the enum says which refusal it is.
     pub fn number(self) -> u8
         ensures { result ≡ rewriting_fault_number self }
     {
@@ -54,11 +55,11 @@ impl RewritingFault {
         ensures { result ≡ rewriting_fault_place self }
     {
         match self {
-            RewritingFault::BadRecord { place, .. } => place,
-            RewritingFault::PlaceBeyond { place } => place,
+            RewritingFault::BadRecord { place, .. }
+            | RewritingFault::PlaceBeyond { place }
+            | RewritingFault::NoForm { place }
+            | RewritingFault::NoCondition { place } => place,
             RewritingFault::NotLegal { step } => step,
-            RewritingFault::NoForm { place } => place,
-            RewritingFault::NoCondition { place } => place,
             RewritingFault::TooLong => 256,
         }
     }

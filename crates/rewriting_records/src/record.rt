@@ -1,12 +1,13 @@
 ghost use Rattle.std.specs.Prelude.{◌≡◌};
-ghost use Rattle.rewriting_records.specs.Records.{bare, plain, pentagon, inserted, spelling};
+ghost use Rattle.rewriting_records.specs.Records.{spelling};
 
 use triangulations::darts::Edge;
-use triangulations::records::RecordFault;
+use triangulations::records::{RecordFault, edge_name};
 use triangulations::step::Step;
 
-/// A record of a rewriting, as it is written: a rule, a way, a place in the walk, and three more bytes.
-#[derive(Clone, Copy)]
+/// A record of a rewriting, as it is written: a rule, a way, a place in the walk, and three more bytes. Rule and way are bytes
+/// here, since those of no rewriting are refused by their place; `rewriting` makes the enum of them.
+#[derive(Clone, Copy, PartialEq, Eq, Debug)]
 pub struct Record {
     pub rule: u8,
     pub way: u8,
@@ -17,7 +18,7 @@ pub struct Record {
 }
 
 /// A rewriting: a rule and its way, with the step or the edges that the record names.
-#[derive(Clone, Copy)]
+#[derive(Clone, Copy, PartialEq, Eq, Debug)]
 pub enum Rewriting {
     /// Pair, way 0: drops two neighbouring steps, the second of which undoes the first.
     DropPair,
@@ -45,60 +46,19 @@ impl Record {
     pub fn rewriting(self, edges: u8) -> Result<Rewriting, RecordFault>
         ensures { result ≡ spelling edges self }
     {
-        match (self.rule, self.way) {
-            (1, 1) => inserted(Step::read([self.code, self.e, self.f], edges)),
-            (5, 0 | 1) => pentagon(edges, self.way, self.code, self.e, self.f),
-            (rule, way) if self.is_bare() => plain(rule, way),
+        let edge = |name| edge_name(name, edges);
+        // A closed list, by rule and way: a rule of the project.
+        match (self.rule, self.way, [self.code, self.e, self.f]) {
+            (1, 0, [0, 0, 0]) => Ok(Rewriting::DropPair),
+            (1, 1, bytes) => Ok(Rewriting::InsertPair(Step::read(bytes, edges)?)),
+            (2, 0, [0, 0, 0]) => Ok(Rewriting::JoinDouble),
+            (2, 1, [0, 0, 0]) => Ok(Rewriting::SplitDouble),
+            (3, 0, [0, 0, 0]) => Ok(Rewriting::Exchange),
+            (4, 0, [0, 0, 0]) => Ok(Rewriting::CarryRight),
+            (4, 1, [0, 0, 0]) => Ok(Rewriting::CarryLeft),
+            (5, 0, [0, e, f]) => Ok(Rewriting::ClosePentagon(edge(e)?, edge(f)?)),
+            (5, 1, [0, e, f]) => Ok(Rewriting::OpenPentagon(edge(e)?, edge(f)?)),
             _ => Err(RecordFault::UnknownCode),
         }
-    }
-
-    // Whether the three bytes after the place are 0.
-    fn is_bare(self) -> bool
-        ensures { result ≡ bare self }
-    {
-        self.code == 0 && self.e == 0 && self.f == 0
-    }
-}
-
-// Pair, way 1, of the step that was read.
-fn inserted(step: Result<Step, RecordFault>) -> Result<Rewriting, RecordFault>
-    ensures { result ≡ inserted step }
-{
-    match step {
-        Ok(step) => Ok(Rewriting::InsertPair(step)),
-        Err(fault) => Err(fault),
-    }
-}
-
-// A pentagon, which names two edges and has no code.
-fn pentagon(edges: u8, way: u8, code: u8, e: Edge, f: Edge) -> Result<Rewriting, RecordFault>
-    ensures { result ≡ pentagon edges way code e f }
-{
-    if code != 0 {
-        return Err(RecordFault::UnknownCode);
-    }
-    if e >= edges || f >= edges {
-        return Err(RecordFault::EdgeBeyond);
-    }
-    if way == 0 {
-        Ok(Rewriting::ClosePentagon(e, f))
-    } else {
-        Ok(Rewriting::OpenPentagon(e, f))
-    }
-}
-
-// The rules and ways whose records name nothing.
-fn plain(rule: u8, way: u8) -> Result<Rewriting, RecordFault>
-    ensures { result ≡ plain rule way }
-{
-    match (rule, way) {
-        (1, 0) => Ok(Rewriting::DropPair),
-        (2, 0) => Ok(Rewriting::JoinDouble),
-        (2, 1) => Ok(Rewriting::SplitDouble),
-        (3, 0) => Ok(Rewriting::Exchange),
-        (4, 0) => Ok(Rewriting::CarryRight),
-        (4, 1) => Ok(Rewriting::CarryLeft),
-        _ => Err(RecordFault::UnknownCode),
     }
 }

@@ -1,3 +1,4 @@
+use crate::common::walk_of;
 use polygon_counting::diagonal::Diagonal;
 use polygons::polygon::Polygon;
 use rewriting::rewrite::rewrite;
@@ -30,23 +31,9 @@ fn heptagon() -> Result<Board, Fail> {
     Ok(board)
 }
 
-fn walk_of(rt: &impl Abort, records: &[[u8; 3]]) -> Result<Walk, Fail> {
-    let mut walk = Walk::new();
-    for record in records {
-        let step = Step::read(*record, 64)?;
-        assert!(rt; walk.push(step));
-    }
-    Ok(walk)
-}
-
 fn holds(rt: &impl Abort, walk: &Walk, records: &[[u8; 3]]) {
-    assert_eq!(rt; walk.len(), records.len());
-    for (at, record) in records.iter().enumerate() {
-        match walk.get(at) {
-            Some(step) => assert_eq!(rt; step.write(), *record, "step {at}"),
-            None => assert!(rt; false, "no step {at}"),
-        }
-    }
+    let written = walk.steps().iter().map(|step| step.write());
+    assert!(rt; written.eq(records.iter().copied()));
 }
 
 // A record as its seven bytes stand in a file.
@@ -55,7 +42,7 @@ fn record_of(bytes: [u8; 7]) -> Record {
     Record {
         rule,
         way,
-        place: high as u16 * 256 + low as u16,
+        place: u16::from_be_bytes([high, low]),
         code,
         e,
         f,
@@ -86,16 +73,12 @@ fn refuses(
 ) -> Result<(), Fail> {
     let mut walk = walk_of(rt, before)?;
     let mut board = Board::new();
-    match rewrite(table, &mut walk, record_of(record), &mut board) {
-        Ok(()) => Err(Fail::new("granted")),
-        Err(fault) => {
-            assert_eq!(rt; fault.number(), refusal.0);
-            assert_eq!(rt; fault.layer(), refusal.1);
-            assert_eq!(rt; fault.place(), refusal.2);
-            holds(rt, &walk, before);
-            Ok(())
-        }
-    }
+    let told = rewrite(table, &mut walk, record_of(record), &mut board)
+        .err()
+        .map(|fault| (fault.number(), fault.layer(), fault.place()));
+    assert_eq!(rt; told, Some(refusal));
+    holds(rt, &walk, before);
+    Ok(())
 }
 
 #[test]
@@ -298,20 +281,17 @@ fn the_longest_walk(rt: HostRuntime) -> Result<(), Fail> {
     let put_in = record_of([1, 1, 0, 0, 2, 1, 0]);
     let mut walk = Walk::new();
     for _ in 0..254 {
-        assert!(rt; walk.push(Step::read([2, 3, 0], 7)?));
+        assert!(rt; walk.push(Step::read([2, 3, 0], 7)?).is_ok());
     }
     let mut longer = walk;
     let mut board = Board::new();
     assert!(rt; rewrite(&table, &mut walk, put_in, &mut board).is_ok());
     assert_eq!(rt; walk.len(), 256);
-    assert!(rt; longer.push(Step::read([2, 3, 0], 7)?));
-    match rewrite(&table, &mut longer, put_in, &mut board) {
-        Ok(()) => Err(Fail::new("granted")),
-        Err(fault) => {
-            assert_eq!(rt; fault.number(), 11);
-            assert_eq!(rt; fault.place(), 256);
-            assert_eq!(rt; longer.len(), 255);
-            Ok(())
-        }
-    }
+    assert!(rt; longer.push(Step::read([2, 3, 0], 7)?).is_ok());
+    let told = rewrite(&table, &mut longer, put_in, &mut board)
+        .err()
+        .map(|fault| (fault.number(), fault.place()));
+    assert_eq!(rt; told, Some((11, 256)));
+    assert_eq!(rt; longer.len(), 255);
+    Ok(())
 }

@@ -1,3 +1,4 @@
+use crate::common::walk_of;
 use carrying::carry::carry;
 use kinds::fraction::Fraction;
 use kinds::weight::Weight;
@@ -7,8 +8,6 @@ use std::test::Fail;
 use surfaces::loading::load;
 use surfaces::torus::Torus;
 use triangulations::board::Board;
-use triangulations::step::Step;
-use walks::walk::Walk;
 
 fn fraction(numerator: u32, denominator: u32) -> Fraction {
     Fraction {
@@ -29,15 +28,10 @@ fn carried<K: Kind>(
 ) -> Result<Option<(u8, u8, usize)>, Fail> {
     let mut table = Board::new();
     load(&Torus::new(1)?, &mut table);
-    let mut walk = Walk::new();
-    for record in records {
-        assert!(rt; walk.push(Step::read(*record, 64)?));
-    }
+    let walk = walk_of(rt, records)?;
     let mut board = Board::new();
-    match carry(&table, &walk, rows, &mut board) {
-        Ok(()) => Ok(None),
-        Err(refusal) => Ok(Some((refusal.number(), refusal.layer(), refusal.place()))),
-    }
+    let refused = carry(&table, &walk, rows, &mut board).err();
+    Ok(refused.map(|refusal| (refusal.number(), refusal.layer(), refusal.place())))
 }
 
 // L(2) from fractions 1, 1, 1, and then L(0); a swap exchanges two.

@@ -182,9 +182,6 @@ some_is m d e p = elim (cases_lt d (6 * m)) [ inl h ↦ back m d h | inr h ↦ a
     never : torus_next m d ≡ None → ⊥
     never q = let z : ◌≡◌ {A = ℕ} 0 1 = cc (p, q) in omega arith
 
-same : {A : Type 0} {o : Option A} {a b : A} → o ≡ Some a → o ≡ Some b → a ≡ b
-same p q = cc
-
 torus_lawful : (m : ℕ) → Lawful (torus m)
 torus_lawful m = record {
   follows = λ d a p. let t = some_is m d a p in
@@ -194,7 +191,7 @@ torus_lawful m = record {
       let q : t.e ≡ d = cc (p, t.first) in t.other q;
   round = λ d a b p r. let t = some_is m d a p in
       let q : a ≡ t.e = cc (p, t.first) in
-      let s : b ≡ t.f = same r (ap (torus_next m) q ∙ t.second) in
+      let s : b ≡ t.f = cc (r, ap (torus_next m) q ∙ t.second) in
       ap (torus_next m) s ∙ t.third;
   covered = λ e h p q. let t = back m (2 * e) (omega arith) in
       let z : ◌≡◌ {A = ℕ} 0 1 = cc (p, t.first) in omega arith;

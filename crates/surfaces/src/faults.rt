@@ -14,7 +14,7 @@ pub enum SurfaceFault {
 }
 
 impl SurfaceFault {
-    /// The number of the refusal.
+    /// The number of the refusal, which is what is printed; the enum says which it is.
     pub fn number(self) -> u8
         ensures { result ≡ fault_number self }
     {

@@ -8,6 +8,7 @@ use crate::surface_trait::Surface;
 use triangulations::darts::Dart;
 
 /// A torus with 1 to 21 punctures in a ring, cut into two triangles for each.
+// Ghost fields and no model: what a surface promises holds of every value, and a model's value has no invariant.
 #[derive(Clone, Copy)]
 pub struct Torus {
     punctures: u8,
@@ -20,12 +21,11 @@ impl Torus {
     pub fn new(punctures: u16) -> Result<Torus, SurfaceFault>
         ensures { MatchResult result (λ t. t.punctures ≡ punctures) (λ e. (e ≡ CountOutside) × ((1 ≤ punctures) → 21 < punctures)) }
     {
-        if punctures < 1 || punctures > 21 {
-            return Err(SurfaceFault::CountOutside);
+        // The pattern says the limits and the conversion in one.
+        match u8::try_from(punctures) {
+            Ok(punctures @ 1..=21) => Ok(Torus { punctures }),
+            _ => Err(SurfaceFault::CountOutside),
         }
-        Ok(Torus {
-            punctures: punctures as u8,
-        })
     }
 
     /// How many punctures it has.

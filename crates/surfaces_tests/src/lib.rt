@@ -14,6 +14,7 @@ mod tests {
     use surfaces::surface_trait::Surface;
     use surfaces::torus::Torus;
     use triangulations::board::Board;
+    use triangulations::moves::NotLegal;
     use triangulations::step::{Flip, Label, Side, Step};
 
     fn on_torus(punctures: u16) -> Result<Board, SurfaceFault> {
@@ -21,13 +22,6 @@ mod tests {
         let mut board = Board::new();
         load(&torus, &mut board);
         Ok(board)
-    }
-
-    fn left(edge: u8) -> Step {
-        Step::Flip(Flip {
-            side: Side::Left,
-            edge,
-        })
     }
 
     // The board has just these followers.
@@ -51,7 +45,7 @@ mod tests {
         for record in walk {
             let step = Step::read(*record, board.edges())?;
             assert_eq!(rt; step.write(), *record);
-            assert!(rt; board.step(step));
+            assert_eq!(rt; board.step(step), Ok(()));
         }
         holds(rt, &board, end)
     }
@@ -81,26 +75,23 @@ mod tests {
     fn a_step_that_is_not_legal_leaves_the_board(rt: HostRuntime) -> Result<(), Fail> {
         let mut board = on_torus(2)?;
         for edge in [1, 0, 2, 3] {
-            assert!(rt; board.step(left(edge)));
+            assert_eq!(rt; board.step(Step::left(edge)), Ok(()));
         }
         let before = board;
         assert!(rt; !board.is_flippable(5));
-        assert!(rt; !board.step(left(5)));
-        assert!(rt;
-            !board.step(Step::Flip(Flip {
-                side: Side::Right,
-                edge: 5,
-            }))
-        );
-        assert!(rt; !board.step(left(6)));
-        assert!(rt; !board.step(left(200)));
-        assert!(rt; !board.step(Step::Label(Label::Turn(6))));
-        assert!(rt; !board.step(Step::Label(Label::Swap(3, 3))));
-        assert!(rt; !board.step(Step::Label(Label::Swap(4, 3))));
-        assert!(rt; !board.step(Step::Label(Label::Swap(0, 6))));
-        for dart in 0..=255u8 {
-            assert_eq!(rt; board.after(dart), before.after(dart));
-        }
+        assert_eq!(rt; board.step(Step::left(5)), Err(NotLegal));
+        let right = Step::Flip(Flip {
+            side: Side::Right,
+            edge: 5,
+        });
+        assert_eq!(rt; board.step(right), Err(NotLegal));
+        assert_eq!(rt; board.step(Step::left(6)), Err(NotLegal));
+        assert_eq!(rt; board.step(Step::left(200)), Err(NotLegal));
+        assert_eq!(rt; board.step(Step::Label(Label::Turn(6))), Err(NotLegal));
+        assert_eq!(rt; board.step(Step::Label(Label::Swap(3, 3))), Err(NotLegal));
+        assert_eq!(rt; board.step(Step::Label(Label::Swap(4, 3))), Err(NotLegal));
+        assert_eq!(rt; board.step(Step::Label(Label::Swap(0, 6))), Err(NotLegal));
+        assert_eq!(rt; board, before);
         Ok(())
     }
 

@@ -5,6 +5,10 @@ use Rattle.triangulations.specs.declared.step.Label.{Label}
 use Rattle.triangulations.specs.declared.step.Label.TheVariants.{Turn, Swap}
 use Rattle.case_file.specs.declared.refusal.Refusal.{Refusal}
 use Rattle.case_file.specs.Refusals.{refusal_number, refusal_layer, refusal_place}
+use Rattle.case_file.specs.declared.surface_section.CaseSurface.{CaseSurface}
+use Rattle.case_file.specs.declared.surface_section.CaseSurface.TheVariants as surface
+use Rattle.trace_text.specs.declared.lines.SurfaceName.{SurfaceName}
+use Rattle.trace_text.specs.declared.lines.SurfaceName.TheVariants as name
 use Rattle.trace_text.specs.declared.triangles.Triangle.{Triangle}
 
 -- REFUSED, number, layer and place, parted by single spaces
@@ -21,6 +25,15 @@ punctures_text m = codes "torus, m = " ++ decimal m
 
 abbrev pub corners_text : ℕ → List ℕ
 corners_text n = codes "polygon, n = " ++ decimal n
+
+abbrev pub surface_text : SurfaceName → List ℕ
+surface_text (name.Torus m) = punctures_text m
+surface_text (name.Polygon n) = corners_text n
+
+-- the name that the surface of a case has
+abbrev pub name_of : CaseSurface → SurfaceName
+name_of (surface.Torus t) = name.Torus t.punctures
+name_of (surface.Polygon p) = name.Polygon p.corners
 
 abbrev pub triangle_text : Triangle → List ℕ
 triangle_text t = decimal t.first ++ (codes " " ++ (decimal t.second ++ (codes " " ++ decimal t.third)))

@@ -46,23 +46,16 @@ fn rising(a: Triangle, b: Triangle) -> (Triangle, Triangle)
 fn smallest_first(x: Dart, y: Dart, z: Dart) -> Triangle
     ensures { result ≡ smallest_first x y z }
 {
-    if x < y && x < z {
-        Triangle {
-            first: x,
-            second: y,
-            third: z,
-        }
+    let (first, second, third) = if x < y && x < z {
+        (x, y, z)
     } else if y < z {
-        Triangle {
-            first: y,
-            second: z,
-            third: x,
-        }
+        (y, z, x)
     } else {
-        Triangle {
-            first: z,
-            second: x,
-            third: y,
-        }
+        (z, x, y)
+    };
+    Triangle {
+        first,
+        second,
+        third,
     }
 }

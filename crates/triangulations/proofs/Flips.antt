@@ -1,16 +1,16 @@
 -- Flips keep the laws and undo one another, and two of them are a turn.
-use Rattle.std.proofs.Common.{◌≡◌, ℕ, ◌+◌, ◌*◌, ◌<◌, Bool, true, false, not, ◌&&◌, ◌||◌, T as Yes, eqb, ◌≢◌, ◌⊎◌, List, [], ◌∷◌, Some, None, Option, sym, refl, ap, ◌∙◌, subst, inl, inr, lit<, eq-eqb}
-use Rattle.triangulations.specs.Triangulations.{Table, Triangulation, Lawful, or_else, after, is_some, inside, together, flippable}
+use Rattle.std.proofs.Math.Dec.{T_not}
+use Rattle.std.proofs.Math.Facts.{and_yes, yes_eqb}
+use Rattle.std.proofs.lemmas.Option.{same_Some}
+use Rattle.std.proofs.Common.{◌≡◌, ℕ, ◌+◌, ◌*◌, ◌<◌, Bool, true, false, not, ◌&&◌, ◌||◌, T as Yes, eqb, ◌≢◌, ◌⊎◌, List, [], ◌∷◌, Some, None, Option, sym, refl, ap, ◌∙◌, subst, inl, inr, lit<}
+use Rattle.triangulations.specs.Triangulations.{Table, Triangulation, Lawful, after, is_some, inside, together, flippable}
 use Rattle.triangulations.specs.Steps.{Direction, left, right, turn, relabelled, flipped, L, R, T, stepped, apply_step}
 use Rattle.triangulations.proofs.Frames.{Apart, Off, Seen, named, flip, eqb_named, after_is, seen_same, same_below}
 use Rattle.triangulations.proofs.Triangles.{nth, Fresh, Tri, tri_of}
-use Rattle.triangulations.proofs.Pairs.{Framed, framed₂, σ₆, exch, lawful_below, below_moves, below_round, and_l, and_r, seen_step_flip, seen_turn}
+use Rattle.triangulations.proofs.Pairs.{Framed, framed₂, σ₆, exch, lawful_below, below_moves, below_round, seen_step_flip, seen_turn}
 
 pub some_none : (a : ℕ) → Some a ≢ None
 some_none a e = subst (λ r. Yes (is_some r)) e tt
-
-pub some_inj : (a b : ℕ) → Some a ≡ Some b → a ≡ b
-some_inj a b e = ap (or_else 0) e
 
 -- a table seen on a frame of a lawful one, with a closed lawful function on the names, is lawful
 module _ (t : Triangulation) (law : Lawful t) (φ : ℕ → ℕ) (n : ℕ) (σ : ℕ → ℕ) (fr : Framed t.next φ n σ)
@@ -27,7 +27,7 @@ module _ (t : Triangulation) (law : Lawful t) (φ : ℕ → ℕ) (n : ℕ) (σ :
     seen_follows d a e = go (named φ n d)
       where
         go : ((k : ℕ) × (k < n) × (d ≡ φ k)) ⊎ Off φ n d → (b : ℕ) × (t' a ≡ Some b)
-        go (inl (k, h, p)) = (φ (σ' (σ' k)), ap t' (some_inj _ _ (sym e ∙ (ap t' p ∙ v.sits k h))) ∙ v.sits (σ' k) (v.closed k h))
+        go (inl (k, h, p)) = (φ (σ' (σ' k)), ap t' (same_Some _ _ (sym e ∙ (ap t' p ∙ v.sits k h))) ∙ v.sits (σ' k) (v.closed k h))
         go (inr o) =
             let q : t.next d ≡ Some a = sym (v.rest d o) ∙ e in
             ((law.follows d a q).0, v.rest a (fr.far d a o q) ∙ (law.follows d a q).1)
@@ -37,7 +37,7 @@ module _ (t : Triangulation) (law : Lawful t) (φ : ℕ → ℕ) (n : ℕ) (σ :
       where
         go : ((k : ℕ) × (k < n) × (d ≡ φ k)) ⊎ Off φ n d → ⊥
         go (inl (k, h, p)) =
-            below_moves n σ' c k h (fr.different _ _ (v.closed k h) h (some_inj _ _ (sym (ap t' p ∙ v.sits k h) ∙ (e ∙ ap Some p))))
+            below_moves n σ' c k h (fr.different _ _ (v.closed k h) h (same_Some _ _ (sym (ap t' p ∙ v.sits k h) ∙ (e ∙ ap Some p))))
         go (inr o) = law.moves d (sym (v.rest d o) ∙ e)
 
     seen_round : (d a b : ℕ) → t' d ≡ Some a → t' a ≡ Some b → t' b ≡ Some d
@@ -45,8 +45,8 @@ module _ (t : Triangulation) (law : Lawful t) (φ : ℕ → ℕ) (n : ℕ) (σ :
       where
         go : ((k : ℕ) × (k < n) × (d ≡ φ k)) ⊎ Off φ n d → t' b ≡ Some d
         go (inl (k, h, p)) =
-            let pa : a ≡ φ (σ' k) = some_inj _ _ (sym e ∙ (ap t' p ∙ v.sits k h)) in
-            let pb : b ≡ φ (σ' (σ' k)) = some_inj _ _ (sym f ∙ (ap t' pa ∙ v.sits _ (v.closed k h))) in
+            let pa : a ≡ φ (σ' k) = same_Some _ _ (sym e ∙ (ap t' p ∙ v.sits k h)) in
+            let pb : b ≡ φ (σ' (σ' k)) = same_Some _ _ (sym f ∙ (ap t' pa ∙ v.sits _ (v.closed k h))) in
             ap t' pb ∙ (v.sits _ (v.closed _ (v.closed k h)) ∙ (ap (λ m. Some (φ m)) (below_round n σ' c k h) ∙ ap Some (sym p)))
         go (inr o) =
             let ea : t.next d ≡ Some a = sym (v.rest d o) ∙ e in
@@ -71,13 +71,9 @@ module _ (t : Triangulation) (law : Lawful t) (φ : ℕ → ℕ) (n : ℕ) (σ :
     }
 
 -- the triangles at an edge that can be flipped
-is_some_of : (r : Option ℕ) → Yes (is_some r) → (a : ℕ) × (r ≡ Some a)
+pub is_some_of : (r : Option ℕ) → Yes (is_some r) → (a : ℕ) × (r ≡ Some a)
 is_some_of None h = absurd h
 is_some_of (Some a) h = (a, refl)
-
-pub not_yes : (b : Bool) → Yes (not b) → Yes b → ⊥
-not_yes true h k = h
-not_yes false h k = k
 
 or_l : (a b : Bool) → Yes a → Yes (a || b)
 or_l true b h = tt
@@ -91,16 +87,13 @@ pub inside_tri : (t : Triangulation) → Lawful t → (d : ℕ) → Yes (inside 
     → Tri t.next d (after t.next d) (after t.next (after t.next d))
 inside_tri t law d h = tri_of t law d (is_some_of (t.next d) h).0 (is_some_of (t.next d) h).1
 
-yes_eqb : (a b : ℕ) → a ≡ b → Yes (eqb a b)
-yes_eqb a b e = subst Yes (sym (eq-eqb a b e)) tt
-
 pub together_fresh : (t : Table) (d x : ℕ) → Yes (not (together t d x)) → Fresh x (d ∷ after t d ∷ after t (after t d) ∷ [])
 unfolding together
 together_fresh t d x h = (
-  (λ e. not_yes _ h (or_l (eqb x d) _ (yes_eqb x d e))),
+  (λ e. T_not _ h (or_l (eqb x d) _ (yes_eqb e))),
   (
-    (λ e. not_yes _ h (or_r (eqb x d) _ (or_l (eqb x (after t d)) _ (yes_eqb x (after t d) e)))),
-    ((λ e. not_yes _ h (or_r (eqb x d) _ (or_r (eqb x (after t d)) _ (yes_eqb x (after t (after t d)) e)))), tt),
+    (λ e. T_not _ h (or_r (eqb x d) _ (or_l (eqb x (after t d)) _ (yes_eqb e)))),
+    ((λ e. T_not _ h (or_r (eqb x d) _ (or_r (eqb x (after t d)) _ (yes_eqb e)))), tt),
   ),
 )
 
@@ -138,9 +131,9 @@ six t e =
 module _ (t : Triangulation) (law : Lawful t) (e : ℕ) (h : Yes (flippable t.next e)) where
   pub flip_parts : Yes (inside t.next (2 * e)) × Yes (inside t.next (2 * e + 1)) × Yes (not (together t.next (2 * e) (2 * e + 1)))
   flip_parts = (
-    and_l (inside t.next (2 * e)) _ h,
-    and_l (inside t.next (2 * e + 1)) _ (and_r (inside t.next (2 * e)) _ h),
-    and_r (inside t.next (2 * e + 1)) _ (and_r (inside t.next (2 * e)) _ h),
+    (and_yes (inside t.next (2 * e)) _ h).0,
+    (and_yes (inside t.next (2 * e + 1)) _ ((and_yes (inside t.next (2 * e)) _ h).1)).0,
+    (and_yes (inside t.next (2 * e + 1)) _ ((and_yes (inside t.next (2 * e)) _ h).1)).1,
   )
 
   pub framed_flip : Framed t.next (nth (six t.next e)) 6 σ₆

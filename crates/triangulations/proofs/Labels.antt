@@ -1,10 +1,11 @@
 -- The label steps undo themselves and keep the laws.
+use Rattle.std.proofs.lemmas.Option.{same_Some}
 use Rattle.std.proofs.Common.{◌≡◌, ℕ, ◌+◌, ◌*◌, ◌<◌, ◌⊎◌, Some, None, Option, sym, refl, ap, ◌∙◌, subst, inl, inr, arith}
 use native.Mathlib.Decide.{ℕ_discrete}
 use Rattle.triangulations.specs.Triangulations.{Table, Triangulation, Lawful, edge_of}
 use Rattle.triangulations.specs.Steps.{renamed, turn, exchanged, swap, relabelled, Step, L, R, T, S, stepped, apply_step, LegalStep}
 use Rattle.triangulations.proofs.Triangles.{turn_even, turn_odd, turn_else}
-use Rattle.triangulations.proofs.Flips.{some_none, some_inj, L_lawful, R_lawful}
+use Rattle.triangulations.proofs.Flips.{some_none, L_lawful, R_lawful}
 use Rattle.triangulations.proofs.Relabellings.{Own, relabelled_twice, exchanged_own, exchanged_below, swap_own, swap_even, swap_odd, swap_edge, turn_own, turn_edge}
 
 pub turn_twice : (e : ℕ) (t : Table) → stepped (T e) (stepped (T e) t) ≡ t
@@ -24,7 +25,7 @@ module _ (π : ℕ → ℕ) (own : Own π) (t : Table) where
 
   renamed_some : (r : Option ℕ) (a : ℕ) → renamed π r ≡ Some a → r ≡ Some (π a)
   renamed_some None a e = absurd (some_none a (sym e))
-  renamed_some (Some x) a e = ap Some (sym (own x) ∙ ap π (some_inj (π x) a e))
+  renamed_some (Some x) a e = ap Some (sym (own x) ∙ ap π (same_Some (π x) a e))
 
   -- a dart before, from one after
   pub was : (d a : ℕ) → relabelled π t d ≡ Some a → t (π d) ≡ Some (π a)

@@ -5,6 +5,6 @@ pub mod Flips
 pub mod Relabellings
 pub mod Labels
 pub mod Stored
+pub mod Made
 pub mod Undoing
-pub mod Spelling
 pub mod Moved

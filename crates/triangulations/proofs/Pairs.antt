@@ -1,4 +1,6 @@
 -- The flips and turns on named darts, and the frame of two triangles.
+use Rattle.std.proofs.Math.Facts.{and_yes}
+use Rattle.std.proofs.lemmas.Bool.{cond-false, cond-true}
 use Rattle.std.proofs.Common.{◌≡◌, ℕ, ◌+◌, ◌*◌, ◌<◌, Bool, true, false, cond, not, ◌&&◌, T as Yes, eqb, ltb, ◌≢◌, List, [], ◌∷◌, Some, sym, refl, ap, ◌∙◌, subst, arith, eqb→eq, ltb→lt, eq-eqb, ne_eqb}
 use native.Mathlib.Decide.{ℕ_discrete}
 use Rattle.triangulations.specs.Triangulations.{Table, Triangulation, Lawful}
@@ -12,12 +14,6 @@ exch i j k = cond (eqb k i) j (cond (eqb k j) i k)
 
 pub swap_other : (e f d : ℕ) → d ≢ 2 * e → d ≢ 2 * e + 1 → d ≢ 2 * f → d ≢ 2 * f + 1 → swap e f d ≡ d
 swap_other e f d a b c g = swap_else e f d (λ q. omega arith) (λ q. omega arith)
-
-pub cond_no : {A : Type 0} (b : Bool) (x y : A) → b ≡ false → cond b x y ≡ y
-cond_no b x y e = ap (λ c. cond c x y) e
-
-pub cond_yes : {A : Type 0} (b : Bool) (x y : A) → b ≡ true → cond b x y ≡ x
-cond_yes b x y e = ap (λ c. cond c x y) e
 
 module _ (φ : ℕ → ℕ) (n : ℕ) (ap-φ : Apart n φ) (t₀ : Table) (far : (x y : ℕ) → Off φ n x → t₀ x ≡ Some y → Off φ n y) where
   module _ (e i j : ℕ) (hi : i < n) (hj : j < n) (di : 2 * e ≡ φ i) (dj : 2 * e + 1 ≡ φ j) where
@@ -37,11 +33,11 @@ module _ (φ : ℕ → ℕ) (n : ℕ) (ap-φ : Apart n φ) (t₀ : Table) (far :
     turn_named k h = go (ℕ_discrete k i) (ℕ_discrete k j)
       where
         go : Dec (k ≡ i) → Dec (k ≡ j) → turn e (φ k) ≡ φ (exch i j k)
-        go (yes q) r = ap (turn e) (ap φ q ∙ sym di) ∙ (turn_even e ∙ (dj ∙ ap φ (sym (cond_yes (eqb k i) j (cond (eqb k j) i k) (eq-eqb k i q)))))
+        go (yes q) r = ap (turn e) (ap φ q ∙ sym di) ∙ (turn_even e ∙ (dj ∙ ap φ (sym (cond-true (eqb k i) j (cond (eqb k j) i k) (eq-eqb k i q)))))
         go (no q) (yes r) = ap (turn e) (ap φ r ∙ sym dj) ∙ (turn_odd e ∙ (di ∙ ap φ (sym
-            (cond_no (eqb k i) j (cond (eqb k j) i k) (ne_eqb k i q) ∙ cond_yes (eqb k j) i k (eq-eqb k j r)))))
+            (cond-false (eqb k i) j (cond (eqb k j) i k) (ne_eqb k i q) ∙ cond-true (eqb k j) i k (eq-eqb k j r)))))
         go (no q) (no r) = turn_else e (φ k) (λ s. q (ap-φ k i h hi (s ∙ di))) (λ s. r (ap-φ k j h hj (s ∙ dj)))
-            ∙ ap φ (sym (cond_no (eqb k i) j (cond (eqb k j) i k) (ne_eqb k i q) ∙ cond_no (eqb k j) i k (ne_eqb k j r)))
+            ∙ ap φ (sym (cond-false (eqb k i) j (cond (eqb k j) i k) (ne_eqb k i q) ∙ cond-false (eqb k j) i k (ne_eqb k j r)))
 
     pub seen_turn : (σ : ℕ → ℕ) (t : Table) → Seen φ n t₀ σ t → Seen φ n t₀ (λ k. exch i j (σ (exch i j k))) (relabelled (turn e) t)
     seen_turn σ t v = seen_relabel φ n ap-φ t₀ (turn e) (exch i j) exch_closed turn_named
@@ -55,14 +51,6 @@ abbrev pub σ₆ : ℕ → ℕ
 abbrev pub lawful_below : ℕ → (ℕ → ℕ) → Bool
 lawful_below n σ = all_below n (λ k. ltb (σ k) n && (not (eqb (σ k) k) && eqb (σ (σ (σ k))) k))
 
-pub and_l : (a b : Bool) → Yes (a && b) → Yes a
-and_l true b h = tt
-and_l false b h = h
-
-pub and_r : (a b : Bool) → Yes (a && b) → Yes b
-and_r true b h = h
-and_r false b h = absurd h
-
 abbrev one_below : ℕ → (ℕ → ℕ) → ℕ → Bool
 one_below n σ k = ltb (σ k) n && (not (eqb (σ k) k) && eqb (σ (σ (σ k))) k)
 
@@ -71,13 +59,13 @@ not_eqb m n h e = subst (λ b. Yes (not b)) (eq-eqb m n e) h
 
 module _ (n : ℕ) (σ : ℕ → ℕ) (c : Yes (lawful_below n σ)) where
   pub below_closed : Closed n σ
-  below_closed k h = ltb→lt (σ k) n (and_l (ltb (σ k) n) _ (at_below n (one_below n σ) c k h))
+  below_closed k h = ltb→lt (σ k) n ((and_yes (ltb (σ k) n) _ (at_below n (one_below n σ) c k h)).0)
 
   pub below_moves : (k : ℕ) → k < n → σ k ≢ k
-  below_moves k h = not_eqb (σ k) k (and_l (not (eqb (σ k) k)) _ (and_r (ltb (σ k) n) _ (at_below n (one_below n σ) c k h)))
+  below_moves k h = not_eqb (σ k) k ((and_yes (not (eqb (σ k) k)) _ ((and_yes (ltb (σ k) n) _ (at_below n (one_below n σ) c k h)).1)).0)
 
   pub below_round : (k : ℕ) → k < n → σ (σ (σ k)) ≡ k
-  below_round k h = eqb→eq _ _ (and_r (not (eqb (σ k) k)) _ (and_r (ltb (σ k) n) _ (at_below n (one_below n σ) c k h)))
+  below_round k h = eqb→eq _ _ ((and_yes (not (eqb (σ k) k)) _ ((and_yes (ltb (σ k) n) _ (at_below n (one_below n σ) c k h)).1)).1)
 
 -- names for all darts of some triangles
 pub record Framed (t : Table) (φ : ℕ → ℕ) (n : ℕ) (σ : ℕ → ℕ) : Type 0 where

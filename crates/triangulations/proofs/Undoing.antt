@@ -1,10 +1,7 @@
 -- Steps that undo one another, and flips done twice.
-use Rattle.std.proofs.Common.{◌≡◌, ℕ, ◌*◌, ◌<◌, T as Yes, refl, arith}
+use Rattle.std.proofs.Common.{◌≡◌, ℕ, ◌*◌, ◌<◌, T as Yes, arith}
 use Rattle.triangulations.specs.Triangulations.{Triangulation, Table, Lawful, flippable}
-use Rattle.triangulations.specs.Steps.{Step, L, R, T, S, Direction, left, right, opposite, flip_step, inverse}
-use Rattle.triangulations.specs.declared.step.Label.{Label}
-use Rattle.triangulations.specs.declared.step.Label.TheVariants.{Turn, Swap}
-use Rattle.triangulations.specs.Meaning.{meant_label}
+use Rattle.triangulations.specs.Steps.{Step, L, R, T, S, Direction, left, right, flip_step, inverse}
 use Rattle.triangulations.specs.Theorems.{Undoes, TwiceIs}
 use Rattle.triangulations.proofs.Flips.{flip_parts, inside_tri, L_then_R, R_then_L, L_then_L, R_then_R, L_again, R_again}
 use Rattle.triangulations.proofs.Labels.{turn_twice, swap_twice}
@@ -18,14 +15,6 @@ undone (L e) t law h = ((h, (L_again t law e h, tt)), with_table t.edges _ _ (L_
 undone (R e) t law h = ((h, (R_again t law e h, tt)), with_table t.edges _ _ (R_then_L t law e h))
 undone (T e) t law h = ((h, (h, tt)), with_table t.edges _ _ (turn_twice e t.next))
 undone (S e f) t law h = ((h, (h, tt)), with_table t.edges _ _ (swap_twice e f t.next))
-
-pub inverse_flip : (w : Direction) (e : ℕ) → inverse (flip_step w e) ≡ flip_step (opposite w) e
-inverse_flip left e = refl
-inverse_flip right e = refl
-
-pub inverse_label : (l : Label) → inverse (meant_label l) ≡ meant_label l
-inverse_label (Turn e) = refl
-inverse_label (Swap e f) = refl
 
 -- an edge that can be flipped is an edge
 pub flippable_edge : (t : Triangulation) → Lawful t → (e : ℕ) → Yes (flippable t.next e) → e < t.edges

@@ -62,3 +62,11 @@ read_as edges code e f =
 
 abbrev pub reading : ℕ → List ℕ → Result Step RecordFault
 reading edges r = read_as edges (slice_index r 0) (slice_index r 1) (slice_index r 2)
+
+-- the edge with this name, which is to be below the number of edges
+abbrev pub edge_name : (edges name : ℕ) → Result ℕ RecordFault
+edge_name edges name = cond (nat_lt name edges) (Ok name) (Err EdgeBeyond)
+
+-- the swap of two edges whose names are to rise
+abbrev pub rising_swap : (e f : ℕ) → Result Label RecordFault
+rising_swap e f = cond (nat_lt e f) (Ok (Swap e f)) (Err NotRising)

@@ -5,6 +5,8 @@ pub mod board;
 pub mod darts;
 pub mod loading;
 pub mod moves;
+pub mod quadrilateral;
 pub mod records;
 pub mod relations;
 pub mod step;
+mod table;

@@ -1,31 +1,41 @@
-ghost use Rattle.std.specs.Prelude.{◌≡◌, ℕ, ◌<◌, ◌≤◌, length, if◌then◌else◌, Decides, slice_index};
-ghost use Rattle.triangulations.specs.Triangulations.{Lawful, after, inside, together, flippable, meets, shares, partner};
-ghost use Rattle.triangulations.specs.Steps.{with_d, with_p, exchanged, renamed, LegalStep, apply_step};
+ghost use Rattle.std.specs.Prelude.{◌≡◌, ℕ, ◌<◌, ◌≤◌, length, if◌then◌else◌, Some, None, Decides, is_ok, slice_index};
+ghost use Rattle.triangulations.specs.Triangulations.{Lawful, flippable, meets, shares, together, partner};
+ghost use Rattle.triangulations.specs.Steps.{exchanged, renamed, LegalStep, apply_step};
 ghost use Rattle.triangulations.specs.Stored.{Within, written};
-ghost use Rattle.triangulations.specs.Meaning.{direction, meant, meant_flip, meant_label, naming, NamesLabel};
-ghost use Rattle.triangulations.specs.Boards.{table, on};
+ghost use Rattle.triangulations.specs.Meaning.{meant, meant_flip, meant_label, naming, NamesLabel};
+ghost use Rattle.triangulations.specs.Boards.{table, on, around};
 
 use crate::board::Board;
 use crate::darts::{Dart, Edge, MOST_EDGES};
-use crate::step::{Flip, Label, Side, Step};
+use crate::quadrilateral::Quadrilateral;
+use crate::step::{Flip, Label, Step};
+use std::array;
+
+/// The step is not legal on the triangulation.
+#[derive(Clone, Copy, PartialEq, Eq, Debug)]
+pub struct NotLegal;
 
 impl Board {
     /// How many edges the triangulation has.
     pub fn edges(&self) -> u8
-        ensures { result ≡ (on self.now).edges }
+        ensures value { result ≡ (on self.now).edges }
+        ensures few { result ≤ 64 }
     {
-        self.edges
+        self.table.edges
     }
 
     /// The dart that follows `dart` in its triangle, or `None` for a dart that lies outside or does not exist.
     pub fn after(&self, dart: Dart) -> Option<Dart>
         ensures { result ≡ (on self.now).next dart }
     {
-        if (dart as usize) < self.next.len() {
-            self.next[dart as usize]
-        } else {
-            None
-        }
+        self.table.follower(dart)
+    }
+
+    /// Whether `x` lies in the triangle of `d`.
+    pub fn together(&self, d: Dart, x: Dart) -> bool
+        ensures { result ≡ together (table self.now) d x }
+    {
+        self.table.together(d, x)
     }
 
     /// Whether both darts of the edge are inside, in different triangles.
@@ -37,10 +47,27 @@ impl Board {
         }
         let d = 2 * edge;
         let p = d + 1;
-        self.is_inside(d) && self.is_inside(p) && !self.together(d, p)
+        self.table.is_inside(d) && self.table.is_inside(p) && !self.together(d, p)
+    }
+
+    /// The two triangles at an edge, where it can be flipped.
+    pub fn around(&self, edge: Edge) -> Option<Quadrilateral>
+        ensures { result ≡ (if flippable (on self.now).next edge then Some (around (on self.now).next edge) else None) }
+    {
+        if !self.is_flippable(edge) {
+            return None;
+        }
+        let d = 2 * edge;
+        let p = d + 1;
+        let a = self.table.after(d);
+        let b = self.table.after(a);
+        let c = self.table.after(p);
+        let g = self.table.after(c);
+        Some(Quadrilateral { d, a, b, p, c, g })
     }
 
     /// Whether the two edges share a triangle: a dart of each lies in it.
+    // Two edges or darts go one by one: the definitions take them so, and a struct would be taken apart in each clause.
     pub fn shares(&self, e: Edge, f: Edge) -> bool
         ensures { result ≡ shares (on self.now).next e f }
     {
@@ -50,10 +77,10 @@ impl Board {
         self.meets(2 * e, f) || self.meets(2 * e + 1, f)
     }
 
-    /// Does a step where it is legal; else the board stays as it was. Answers whether the step was legal.
-    pub fn step(&mut self, step: Step) -> bool
-        ensures legal { Decides result (LegalStep (meant step) (on self.old)) }
-        ensures moved { on self.new ≡ (if result then apply_step (meant step) (on self.old) else on self.old) }
+    /// Does a step where it is legal; else the board stays as it was.
+    pub fn step(&mut self, step: Step) -> Result<(), NotLegal>
+        ensures legal { Decides (is_ok result) (LegalStep (meant step) (on self.old)) }
+        ensures moved { on self.new ≡ (if is_ok result then apply_step (meant step) (on self.old) else on self.old) }
         ensures lawful { Lawful (on self.new) }
     {
         match step {
@@ -62,93 +89,37 @@ impl Board {
         }
     }
 
-    // The dart that follows `dart`, or `dart` itself where none does.
-    fn next(&self, dart: Dart) -> Dart
-        ensures { result ≡ after (table self.now) dart }
-    {
-        match self.after(dart) {
-            Some(a) => a,
-            None => dart,
-        }
-    }
-
-    fn is_inside(&self, dart: Dart) -> bool
-        ensures { result ≡ inside (table self.now) dart }
-    {
-        match self.after(dart) {
-            Some(_) => true,
-            None => false,
-        }
-    }
-
-    /// Whether `x` lies in the triangle of `d`.
-    pub fn together(&self, d: Dart, x: Dart) -> bool
-        ensures { result ≡ together (table self.now) d x }
-    {
-        let a = self.next(d);
-        let b = self.next(a);
-        x == d || x == a || x == b
-    }
-
     // Whether the edge `f` has a dart in the triangle of `d`.
     fn meets(&self, d: Dart, f: Edge) -> bool
         requires { f < 64 }
         ensures { result ≡ meets (table self.now) d f }
     {
-        self.is_inside(d) && (self.together(d, 2 * f) || self.together(d, 2 * f + 1))
+        self.table.is_inside(d) && (self.together(d, 2 * f) || self.together(d, 2 * f + 1))
     }
 
-    fn flip(&mut self, flip: Flip) -> bool
-        ensures legal { result ≡ flippable (table self.old) flip.edge }
-        ensures moved { on self.new ≡ (if result then apply_step (meant_flip flip) (on self.old) else on self.old) }
+    fn flip(&mut self, flip: Flip) -> Result<(), NotLegal>
+        ensures legal { is_ok result ≡ flippable (table self.old) flip.edge }
+        ensures moved { on self.new ≡ (if is_ok result then apply_step (meant_flip flip) (on self.old) else on self.old) }
     {
-        if !self.is_flippable(flip.edge) {
-            return false;
-        }
-        let d = 2 * flip.edge;
-        let p = d + 1;
-        let a = self.next(d);
-        let b = self.next(a);
-        let c = self.next(p);
-        let g = self.next(c);
-        write_triangle(&mut self.next, with_p(flip.side, p, a, b, c, g));
-        write_triangle(&mut self.next, with_d(flip.side, d, a, b, c, g));
-        true
+        let around = self.around(flip.edge).ok_or(NotLegal)?;
+        write_triangle(
+            &mut self.table.next,
+            around.begun_by(around.p, flip.side.other()),
+        );
+        write_triangle(&mut self.table.next, around.begun_by(around.d, flip.side));
+        Ok(())
     }
 
-    fn relabel(&mut self, label: Label) -> bool
-        ensures legal { Decides result (NamesLabel label self.old.edges) }
-        ensures moved { on self.new ≡ (if result then apply_step (meant_label label) (on self.old) else on self.old) }
+    fn relabel(&mut self, label: Label) -> Result<(), NotLegal>
+        ensures legal { Decides (is_ok result) (NamesLabel label self.old.table.edges) }
+        ensures moved { on self.new ≡ (if is_ok result then apply_step (meant_label label) (on self.old) else on self.old) }
     {
-        if !label.names(self.edges) {
-            return false;
+        if !label.names(self.table.edges) {
+            return Err(NotLegal);
         }
-        let mut next = [None; 128];
-        for d in 0..128u8 {
-            next[d as usize] = label.renamed(self.after(label.named(d)));
-        }
-        self.next = next;
-        true
-    }
-}
-
-// The triangle that a flip makes with d, where the triangles at its edge were d, a, b and p, c, g.
-fn with_d(side: Side, d: Dart, a: Dart, b: Dart, c: Dart, g: Dart) -> [Dart; 3]
-    ensures { result ≡ with_d (direction side) d a b c g }
-{
-    match side {
-        Side::Left => [d, b, c],
-        Side::Right => [d, g, a],
-    }
-}
-
-// The triangle that it makes with p.
-fn with_p(side: Side, p: Dart, a: Dart, b: Dart, c: Dart, g: Dart) -> [Dart; 3]
-    ensures { result ≡ with_p (direction side) p a b c g }
-{
-    match side {
-        Side::Left => [p, g, a],
-        Side::Right => [p, b, c],
+        let old = self.table;
+        self.table.next = array::from_fn(|d| label.renamed(old.follower(label.named(d as u8))));
+        Ok(())
     }
 }
 
@@ -209,9 +180,6 @@ impl Label {
         requires { NamesLabel self 64 }
         ensures { result ≡ renamed (naming self) dart }
     {
-        match dart {
-            Some(a) => Some(self.named(a)),
-            None => None,
-        }
+        dart.map(|a| self.named(a))
     }
 }

@@ -1,6 +1,6 @@
 ghost use Rattle.std.specs.Prelude.{◌≡◌, ℕ, IfOk, Ok};
 ghost use Rattle.triangulations.specs.Meaning.{Names};
-ghost use Rattle.triangulations.specs.Records.{fault_number, record_of, swaps, known, named, rises, spelt, reading};
+ghost use Rattle.triangulations.specs.Records.{fault_number, record_of, edge_name, rising_swap, reading};
 
 use crate::darts::Edge;
 use crate::step::{Flip, Label, Side, Step};
@@ -17,7 +17,7 @@ pub enum RecordFault {
 }
 
 impl RecordFault {
-    /// The number of the refusal.
+    /// The number of the refusal, which is what is printed; the enum says which it is.
     pub fn number(self) -> u8
         ensures { result ≡ fault_number self }
     {
@@ -35,17 +35,20 @@ impl Step {
         ensures read { result ≡ reading edges bytes }
         ensures back { IfOk result (λ s. record_of s ≡ bytes) }
     {
-        let [code, e, f] = bytes;
-        if !is_known(code, f) {
-            return Err(RecordFault::UnknownCode);
-        }
-        if !is_named(edges, code, e, f) {
-            return Err(RecordFault::EdgeBeyond);
-        }
-        if !is_rising(code, e, f) {
-            return Err(RecordFault::NotRising);
-        }
-        Ok(spelt(code, e, f))
+        let step = match bytes {
+            [0, e, 0] => Step::Flip(Flip {
+                side: Side::Left,
+                edge: edge_name(e, edges)?,
+            }),
+            [1, e, 0] => Step::Flip(Flip {
+                side: Side::Right,
+                edge: edge_name(e, edges)?,
+            }),
+            [2, e, 0] => Step::Label(Label::Turn(edge_name(e, edges)?)),
+            [3, e, f] => Step::Label(rising_swap(edge_name(e, edges)?, edge_name(f, edges)?)?),
+            _ => return Err(RecordFault::UnknownCode),
+        };
+        Ok(step)
     }
 
     /// Writes the record of the step.
@@ -72,44 +75,24 @@ impl Step {
     }
 }
 
-fn swaps(code: u8) -> bool
-    ensures { result ≡ swaps code }
+/// The edge with this name, which is to be below `edges`.
+pub fn edge_name(name: u8, edges: u8) -> Result<Edge, RecordFault>
+    ensures { result ≡ edge_name edges name }
 {
-    code == 3
+    if name < edges {
+        Ok(name)
+    } else {
+        Err(RecordFault::EdgeBeyond)
+    }
 }
 
-fn is_known(code: u8, f: Edge) -> bool
-    ensures { result ≡ known code f }
+// The swap of two edges whose names are to rise.
+fn rising_swap(e: Edge, f: Edge) -> Result<Label, RecordFault>
+    ensures { result ≡ rising_swap e f }
 {
-    code <= 3 && (swaps(code) || f == 0)
-}
-
-fn is_named(edges: u8, code: u8, e: Edge, f: Edge) -> bool
-    ensures { result ≡ named edges code e f }
-{
-    e < edges && (!swaps(code) || f < edges)
-}
-
-fn is_rising(code: u8, e: Edge, f: Edge) -> bool
-    ensures { result ≡ rises code e f }
-{
-    !swaps(code) || e < f
-}
-
-// The step that a record spells whose code is known.
-fn spelt(code: u8, e: Edge, f: Edge) -> Step
-    ensures { result ≡ spelt code e f }
-{
-    match code {
-        0 => Step::Flip(Flip {
-            side: Side::Left,
-            edge: e,
-        }),
-        1 => Step::Flip(Flip {
-            side: Side::Right,
-            edge: e,
-        }),
-        2 => Step::Label(Label::Turn(e)),
-        _ => Step::Label(Label::Swap(e, f)),
+    if e < f {
+        Ok(Label::Swap(e, f))
+    } else {
+        Err(RecordFault::NotRising)
     }
 }

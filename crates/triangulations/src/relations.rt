@@ -1,8 +1,9 @@
 ghost use Rattle.std.specs.Prelude.{◌≡◌};
-ghost use Rattle.triangulations.specs.Steps.{opposite, inverse};
+ghost use Rattle.triangulations.specs.Steps.{L, T, opposite, inverse};
 ghost use Rattle.triangulations.specs.Meaning.{direction, meant, meant_flip, meant_label};
 ghost use Rattle.triangulations.specs.Theorems.{Undoes, TwiceIs};
 
+use crate::darts::Edge;
 use crate::step::{Flip, Label, Side, Step};
 
 impl Side {
@@ -18,6 +19,23 @@ impl Side {
 }
 
 impl Step {
+    /// The left flip of an edge.
+    pub fn left(edge: Edge) -> Step
+        ensures { meant result ≡ L edge }
+    {
+        Step::Flip(Flip {
+            side: Side::Left,
+            edge,
+        })
+    }
+
+    /// The turn of an edge.
+    pub fn turn(edge: Edge) -> Step
+        ensures { meant result ≡ T edge }
+    {
+        Step::Label(Label::Turn(edge))
+    }
+
     /// The step that undoes this one wherever this one is legal: a left flip undoes a right one and a right flip a left one,
     /// and turns and swaps undo themselves.
     pub fn inverse(self) -> Step

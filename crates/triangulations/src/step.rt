@@ -1,5 +1,8 @@
 use crate::darts::Edge;
 
+/// At most so many steps has a walk.
+pub const MOST_STEPS: usize = 256;
+
 /// The direction of a flip.
 #[derive(Clone, Copy, PartialEq, Eq, Debug)]
 pub enum Side {

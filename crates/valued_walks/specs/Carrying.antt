@@ -7,14 +7,21 @@ use Rattle.numbers.specs.Faults.{at_step}
 use Rattle.numbers.specs.Ptolemy.{flip_result}
 use Rattle.numbers.specs.declared.fault.FlipFault.{FlipFault}
 use Rattle.numbers.specs.declared.fault.CarryFault.{CarryFault}
+use Rattle.numbers.specs.declared.ptolemy.Sides.{Sides}
 
--- what a flip of e answers, where d, a, b and p, c, g are the triangles of d = 2 e and p = 2 e + 1 and each edge has a row
+-- the rows around e, where d, a, b and p, c, g are the triangles of d = 2 e and p = 2 e + 1 and each edge has a row
+abbrev pub sides_at : {N : Type 0} → Table → ℕ → (ℕ → N) → Sides N
+sides_at t e rows = record {
+  a = rows (edge_of (after t (2 * e)));
+  b = rows (edge_of (after t (after t (2 * e))));
+  c = rows (edge_of (after t (2 * e + 1)));
+  g = rows (edge_of (after t (after t (2 * e + 1))));
+  e = rows e;
+}
+
+-- what a flip of e answers
 abbrev pub flip_answer : {N : Type 0} → Numbers N → Table → ℕ → (ℕ → N) → Result N FlipFault
-flip_answer K t e rows =
-    flip_result K
-    (rows (edge_of (after t (2 * e)))) (rows (edge_of (after t (after t (2 * e)))))
-    (rows (edge_of (after t (2 * e + 1)))) (rows (edge_of (after t (after t (2 * e + 1)))))
-    (rows e)
+flip_answer K t e rows = flip_result K (sides_at t e rows)
 
 abbrev pub with_row : {N : Type 0} → ℕ → (ℕ → N) → N → ℕ → N
 with_row e rows n k = cond (k == e) n (rows k)

@@ -44,4 +44,10 @@ pub record PentagonFractions (given : List Fraction) : Type 0 where
 -- a flip with a = 2147483647/2, c = 2/2147483647, b = g = 1 and e = 1/2
 abbrev pub reduced_flip : Result Fraction FlipFault
 reduced_flip =
-    flip_result fractions (record { numerator = largest; denominator = 2 }) (whole 1) (record { numerator = 2; denominator = largest }) (whole 1) (record { numerator = 1; denominator = 2 })
+    flip_result fractions (record {
+      a = record { numerator = largest; denominator = 2 };
+      b = whole 1;
+      c = record { numerator = 2; denominator = largest };
+      g = whole 1;
+      e = record { numerator = 1; denominator = 2 };
+    })

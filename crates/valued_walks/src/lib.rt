@@ -1,5 +1,5 @@
 //! Values along worked walks: each answer is what the definitions come to, by evaluation.
-#![tactic(auto)]
+#![tactic(auto, unfolding(triangulations::specs::Steps::flipped_by, triangulations::specs::Steps::triangle))]
 
 ghost use Rattle.std.specs.Prelude.{◌≡◌, [], ◌∷◌, Ok, Err};
 ghost use Rattle.triangulations.specs.Steps.{L};

@@ -3,5 +3,6 @@
 
 mod steps;
 mod stop;
+mod text;
 pub mod trace;
 mod values;

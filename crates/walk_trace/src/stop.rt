@@ -10,6 +10,7 @@ pub enum Stop {
     Refused(Refusal),
 }
 
+// By hand: that of `AllocFailed<T>` is for every `T`, which no derive writes, and the others are no longer than it.
 impl From<Refusal> for Stop {
     fn from(refusal: Refusal) -> Stop {
         Stop::Refused(refusal)

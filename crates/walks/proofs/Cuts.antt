@@ -1,57 +1,54 @@
--- What is left of a list, and what turning a part of it round leaves of the list.
-use Rattle.std.proofs.Common.{◌≡◌, ℕ, ◌+◌, ◌-◌, ◌<◌, ◌≤◌, min, true, false, leb, ◌⊎◌, List, ◌++◌, length, take, drop, sym, ap, ◌∙◌, inl, inr, arith}
-use Rattle.std.proofs.lemmas.List.{take_at, take-take, drop_at, drop_all, drop-drop, append_assoc, length-append, length-take-le, length-take, length-drop, drop-append-le}
-use Rattle.std.proofs.lemmas.Slice.{between_is}
-use Rattle.std.proofs.lemmas.Bool.Decides.{leb_tells}
+-- A part of a list taken out, or put in, by copying what stands behind it.
+use Rattle.std.proofs.Common.{◌≡◌, ℕ, ◌+◌, ◌-◌, ◌≤◌, List, ◌++◌, length, take, drop, sym, refl, ap, ◌∙◌, arith}
+use Rattle.std.specs.List.{copy_within}
+use Rattle.std.proofs.Math.Seq.{take-append-add}
+use Rattle.std.proofs.lemmas.List.{take_at, take-take, take-append-le, drop_at, append_assoc, length-append, length-take-le, length-drop}
+use Rattle.std.proofs.lemmas.List.Edits.{paste_all, take-paste, length-paste}
+use Rattle.std.proofs.lemmas.Slice.{between_is, put_mid-paste}
+use borrow.Rule.Slice.PartMut.{put_mid}
 use Rattle.walks.specs.Walks.{replaced}
 
 module _ {X : Type 0} (xs : List X) (at : ℕ) where
-  -- `&s[m..n]`, where m is the smaller of `at` and n
-  pub rest_is : (n m : ℕ) → n ≤ length xs → m ≡ min at n → take (n - m) (drop m xs) ≡ drop at (take n xs)
-  rest_is n m h e = between_is xs m n ∙ by (leb_tells at n)
-    where
-      by : ((leb at n ≡ true) × (at ≤ n)) ⊎ ((leb at n ≡ false) × (n < at)) → drop m (take n xs) ≡ drop at (take n xs)
-      by (inl p) = let q : m ≡ at = omega arith in ap (λ k. drop k (take n xs)) q
-      by (inr p) =
-          let l : length (take n xs) ≡ n = length-take-le n xs h in
-          drop_all m (take n xs) (omega arith) ∙ sym (drop_all at (take n xs) (omega arith))
-
-  -- what `rotate_left(k)` of the part from `at` to n leaves before n - k
-  pub turned : (n k : ℕ) (mid rot post : List X) → at + k ≤ n → n ≤ length xs → mid ≡ drop at (take n xs) → rot ≡ drop k mid ++ take k mid
-      → take (n - k) (take at xs ++ (rot ++ post)) ≡ take at (take n xs) ++ drop (at + k) (take n xs)
-  turned n k mid rot post h g m r =
-      let l : length (take at xs ++ drop k mid) ≡ n - k = rw m (simp (length-append, length-take, length-drop, length-take) (omega arith)) in
-      ap (λ q. take (n - k) (take at xs ++ (q ++ post))) r
-      ∙ ap (λ q. take (n - k) (take at xs ++ q)) (append_assoc (drop k mid) (take k mid) post)
-      ∙ ap (take (n - k)) (sym (append_assoc (take at xs) (drop k mid) (take k mid ++ post)))
-      ∙ take_at (take at xs ++ drop k mid) _ (n - k) l
-      ∙ ap (λ q. take at xs ++ drop k q) m
-      ∙ ap (λ q. take at xs ++ q) (drop-drop k at (take n xs))
+  -- what stands behind k elements is copied over them
+  pub closed_up : (n k : ℕ) → at + k ≤ n → n ≤ length xs
+      → take (n - k) (copy_within xs (at + k) n at) ≡ take at (take n xs) ++ drop (at + k) (take n xs)
+  closed_up n k h g =
+      let s : n - k ≡ at + (n - (at + k)) = omega arith in
+      let l : length (drop (at + k) xs) ≡ length xs - (at + k) = length-drop (at + k) xs in
+      ap (λ m. take m (copy_within xs (at + k) n at)) s
+      ∙ take-paste xs at (drop (at + k) xs) (n - (at + k)) (omega arith) (omega arith)
+      ∙ ap (λ q. take at xs ++ q) (between_is xs (at + k) n)
       ∙ ap (λ q. q ++ drop (at + k) (take n xs)) (sym (take-take at n xs (omega arith)))
 
-  -- what `rotate_right` of the part from `at` on leaves, once the new elements stand behind the first n
-  pub swung : (n : ℕ) (ys new mid rot post : List X) → at ≤ n → n ≤ length xs → take (n + length new) ys ≡ take n xs ++ new
-      → take at ys ≡ take at xs → mid ≡ drop at (take (n + length new) ys)
-      → rot ≡ drop (length mid - length new) mid ++ take (length mid - length new) mid
-      → take (n + length new) (take at ys ++ (rot ++ post)) ≡ take at (take n xs) ++ (new ++ drop at (take n xs))
-  swung n ys new mid rot post h g w b m r =
+  -- what stands behind the place is copied on, and the new elements stand in the room that this makes
+  pub put_between : (n m : ℕ) (new ys written : List X) → at ≤ n → n + length new ≤ length xs → ys ≡ copy_within xs at n (at + length new)
+      → written ≡ new → m ≡ length new
+      → take (n + length new) (put_mid at m ys written) ≡ take at (take n xs) ++ (new ++ drop at (take n xs))
+  put_between n m new ys written h g e w z =
       let k = length new in
       let back = drop at (take n xs) in
-      let l : length (take n xs) ≡ n = length-take-le n xs g in
-      let la : length (take at xs) ≡ at = length-take-le at xs (omega arith) in
-      let lb : length back ≡ n - at = length-drop at (take n xs) ∙ ap (λ z. z - at) l in
-      let hl : at ≤ length (take n xs) = omega arith in
-      let m2 : mid ≡ back ++ new = m ∙ ap (drop at) w ∙ drop-append-le at (take n xs) new hl in
-      let ml : length back ≡ length mid - k = rw m2 (simp length-append (omega arith)) in
-      let d : drop (length mid - k) mid ≡ new = ap (drop (length mid - k)) m2 ∙ drop_at back new _ ml in
-      let t : take (length mid - k) mid ≡ back = ap (take (length mid - k)) m2 ∙ take_at back new _ ml in
-      let r2 : rot ≡ new ++ back = cc in
-      let lt : length (take at xs ++ (new ++ back)) ≡ n + k = simp length-append (omega arith) in
-      ap (λ q. take (n + k) (q ++ (rot ++ post))) b
-      ∙ ap (λ q. take (n + k) (take at xs ++ (q ++ post))) r2
-      ∙ ap (take (n + k)) (sym (append_assoc (take at xs) (new ++ back) post))
-      ∙ take_at (take at xs ++ (new ++ back)) post (n + k) lt
-      ∙ ap (λ q. q ++ (new ++ back)) (sym (take-take at n xs h))
+      let l : length (drop at xs) ≡ length xs - at = length-drop at xs in
+      let s : n + k ≡ at + k + (n - at) = omega arith in
+      let front : take (n + k) ys ≡ take (at + k) xs ++ back =
+      ap (take (n + k)) e ∙ ap (λ j. take j (copy_within xs at n (at + k))) s
+      ∙ take-paste xs (at + k) (drop at xs) (n - at) (omega arith) (omega arith) ∙ ap (λ q. take (at + k) xs ++ q) (between_is xs at n) in
+      let lf : length (take (at + k) xs) ≡ at + k = length-take-le (at + k) xs (omega arith) in
+      let ly : length ys ≡ length xs = ap length e ∙ length-paste xs (at + k) (drop at xs) (n - at) (omega arith) (omega arith) in
+      let la : length (take at ys) ≡ at = length-take-le at ys (omega arith) in
+      let a : take at ys ≡ take at (take n xs) =
+      sym (take-take at (n + k) ys (omega arith)) ∙ ap (take at) front ∙ take-append-le at (take (at + k) xs) back (omega arith)
+      ∙ take-take at (at + k) xs (omega arith) ∙ sym (take-take at n xs h) in
+      let d : n - at ≡ n + k - (at + k) = omega arith in
+      let b : take (n - at) (drop (at + k) ys) ≡ back =
+      ap (λ j. take j (drop (at + k) ys)) d ∙ between_is ys (at + k) (n + k) ∙ ap (drop (at + k)) front ∙ drop_at (take (at + k) xs) back (at + k) lf in
+      let t : n + k ≡ length (take at ys ++ new) + (n - at) = simp length-append (omega arith) in
+      ap (take (n + k)) (put_mid-paste at m ys written new k w (sym z) refl ∙ paste_all ys at new k refl)
+      ∙ ap (take (n + k)) (sym (append_assoc (take at ys) new (drop (at + k) ys)))
+      ∙ ap (λ j. take j ((take at ys ++ new) ++ drop (at + k) ys)) t
+      ∙ take-append-add (take at ys ++ new) (drop (at + k) ys) (n - at)
+      ∙ ap (λ q. (take at ys ++ new) ++ q) b
+      ∙ append_assoc (take at ys) new back
+      ∙ ap (λ q. q ++ (new ++ back)) a
 
   -- so many taken out, and others put in there
   pub put_for : (taken : ℕ) (new ys zs : List X) → at ≤ length xs → ys ≡ take at xs ++ drop (at + taken) xs

@@ -1,5 +1,5 @@
 -- What edits of a walk are of what its steps mean.
-use Rattle.std.proofs.Common.{◌≡◌, ℕ, ◌+◌, List, [], ◌∷◌, ◌++◌, map, take, drop, Some, sym, refl, ap, ◌∙◌, arith, rules}
+use Rattle.std.proofs.Common.{◌≡◌, ℕ, ◌+◌, List, [], ◌∷◌, ◌++◌, map, take, drop, Some, sym, refl, ap, ◌∙◌, rules}
 use Rattle.std.specs.Option.{option_map}
 use Rattle.std.specs.List.{slice_get}
 use Rattle.std.proofs.lemmas.Option.{slice_get-map}
@@ -29,15 +29,15 @@ nth_meant xs i s e = slice_get-map meant xs i ∙ ap (option_map meant) e
 
 same_flips : (s t : Side) (e f : ℕ) → flip_step (direction s) e ≡ flip_step (direction t) f → (s ≡ t) × (e ≡ f)
 same_flips Left Left e f p = (refl, cc)
-same_flips Left Right e f p = let z : ◌≡◌ {A = ℕ} 0 1 = cc in absurd (omega arith)
-same_flips Right Left e f p = let z : ◌≡◌ {A = ℕ} 0 1 = cc in absurd (omega arith)
+same_flips Left Right e f p = absurd cc
+same_flips Right Left e f p = absurd cc
 same_flips Right Right e f p = (refl, cc)
 
 flip_no_label : (s : Side) (e : ℕ) (l : Label) → flip_step (direction s) e ≡ meant_label l → ⊥
-flip_no_label Left e (Turn k) p = let z : ◌≡◌ {A = ℕ} 0 1 = cc in omega arith
-flip_no_label Left e (Swap k l) p = let z : ◌≡◌ {A = ℕ} 0 1 = cc in omega arith
-flip_no_label Right e (Turn k) p = let z : ◌≡◌ {A = ℕ} 0 1 = cc in omega arith
-flip_no_label Right e (Swap k l) p = let z : ◌≡◌ {A = ℕ} 0 1 = cc in omega arith
+flip_no_label Left e (Turn k) p = cc
+flip_no_label Left e (Swap k l) p = cc
+flip_no_label Right e (Turn k) p = cc
+flip_no_label Right e (Swap k l) p = cc
 
 same_labels : (k l : Label) → meant_label k ≡ meant_label l → k ≡ l
 same_labels (Turn a) (Turn b) p = cc

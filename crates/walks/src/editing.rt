@@ -1,7 +1,9 @@
-ghost use Rattle.std.specs.Prelude.{◌≡◌, ◌+◌, ◌-◌, ◌≤◌, false, [], ◌∷◌, ◌++◌, length, take, drop, if◌then◌else◌, Some, Decides, nat_lt};
+ghost use Rattle.std.specs.Prelude.{◌≡◌, ◌+◌, ◌-◌, ◌≤◌, [], ◌∷◌, ◌++◌, length, take, drop, if◌then◌else◌, is_ok, OnErr, nat_lt};
 ghost use Rattle.std.specs.List.{slice_get};
-ghost use Rattle.walks.specs.Walks.{held, replaced, renamed_label, renamed_named};
+ghost use Rattle.walks.specs.declared.fault.EditFault.TheVariants.{NoSteps};
+ghost use Rattle.walks.specs.Walks.{held, replaceable, replaced, renamed_label, renamed_named};
 
+use crate::fault::EditFault;
 use crate::table::MOST_STEPS;
 use crate::walk::Walk;
 use triangulations::darts::Edge;
@@ -9,67 +11,70 @@ use triangulations::moves::exchanged;
 use triangulations::step::{Label, Step};
 
 impl Walk {
-    /// Puts `new` in place of the `taken` steps from `at` on, where there are so many and the walk stays within 256 steps;
-    /// else it stays as it was. Answers whether it did.
-    pub fn replace(&mut self, at: usize, taken: usize, new: &[Step]) -> bool
-        ensures granted { Decides result ((at + taken ≤ length (held self.old)) × (length (held self.old) - taken + length new.now ≤ 256)) }
-        ensures replaced { held self.new ≡ (if result then replaced at taken new.now (held self.old) else held self.old) }
+    /// Puts `new` in place of the `taken` steps from `at` on, where there are so many and the walk stays within 256 steps.
+    pub fn replace(&mut self, at: usize, taken: usize, new: &[Step]) -> Result<(), EditFault>
+        ensures granted { result ≡ replaceable at taken (length new.now) (length (held self.old)) }
+        ensures replaced { held self.new ≡ (if is_ok result then replaced at taken new.now (held self.old) else held self.old) }
     {
-        if at > self.len || taken > self.len - at || new.len() > MOST_STEPS - (self.len - taken) {
-            return false;
+        if at > self.len || taken > self.len - at {
+            return Err(EditFault::NoSteps);
+        }
+        if new.len() > MOST_STEPS - (self.len - taken) {
+            return Err(EditFault::NoRoom);
         }
         self.cut(at, taken);
         self.put_in(at, new);
-        true
+        Ok(())
     }
 
-    /// The two steps at `at` and `at + 1` change places, where there are two. Answers whether there are.
-    pub fn exchange(&mut self, at: usize) -> bool
-        ensures granted { result ≡ nat_lt (at + 1) (length (held self.old)) }
+    /// The two steps at `at` and `at + 1` change places, where there are two.
+    pub fn exchange(&mut self, at: usize) -> Result<(), EditFault>
+        ensures granted { result ≡ (if nat_lt (at + 1) (length (held self.old)) then Ok tt else Err NoSteps) }
         ensures exchanged { (a b : Step) → slice_get (held self.old) at ≡ Some a → slice_get (held self.old) (at + 1) ≡ Some b → held self.new ≡ replaced at 2 (b ∷ a ∷ []) (held self.old) }
-        ensures kept { result ≡ false → held self.new ≡ held self.old }
+        ensures kept { OnErr result (held self.new ≡ held self.old) }
+        ensures length { length (held self.new) ≡ length (held self.old) }
     {
-        if self.len < 2 || at > self.len - 2 {
-            return false;
+        if self.len.saturating_sub(at) < 2 {
+            return Err(EditFault::NoSteps);
         }
         self.steps.swap(at, at + 1);
-        true
+        Ok(())
     }
 
-    /// Exchanges the names `e` and `f` in the step at `at`, where there is one. Answers whether there is.
-    pub fn rename(&mut self, at: usize, e: Edge, f: Edge) -> bool
-        ensures granted { result ≡ nat_lt at (length (held self.old)) }
+    // The names are passed one by one, as the definitions take them: each clause would take a struct of the two apart.
+    /// Exchanges the names `e` and `f` in the step at `at`, where there is one.
+    pub fn rename(&mut self, at: usize, e: Edge, f: Edge) -> Result<(), EditFault>
+        ensures granted { result ≡ (if nat_lt at (length (held self.old)) then Ok tt else Err NoSteps) }
         ensures renamed { (s : Step) → slice_get (held self.old) at ≡ Some s → held self.new ≡ replaced at 1 (renamed_named e f s ∷ []) (held self.old) }
-        ensures kept { result ≡ false → held self.new ≡ held self.old }
+        ensures kept { OnErr result (held self.new ≡ held self.old) }
+        ensures length { length (held self.new) ≡ length (held self.old) }
     {
         if at >= self.len {
-            return false;
+            return Err(EditFault::NoSteps);
         }
+        // By index: a proof knows nothing of what is written through a slice's `get_mut`.
         rename_step(&mut self.steps[at], e, f);
-        true
+        Ok(())
     }
 
-    // Takes the `taken` steps from `at` on out: they go to the end, past those in use.
+    // Takes the `taken` steps from `at` on out.
     fn cut(&mut self, at: usize, taken: usize)
         requires { at + taken ≤ self.old.len }
         ensures len { self.new.len ≡ self.old.len - taken }
         ensures rest { held self.new ≡ take at (held self.old) ++ drop (at + taken) (held self.old) }
     {
-        let n = self.len;
-        self.steps[at..n].rotate_left(taken);
-        self.len = n - taken;
+        self.steps.copy_within(at + taken..self.len, at);
+        self.len -= taken;
     }
 
-    // Puts `new` in before `at`: it is written at the end, and goes to its place from there.
+    // Puts `new` in before `at`.
     fn put_in(&mut self, at: usize, new: &[Step])
         requires { (at ≤ self.old.len) × (self.old.len + length new.now ≤ 256) }
         ensures { held self.new ≡ take at (held self.old) ++ (new.now ++ drop at (held self.old)) }
     {
-        let n = self.len;
-        let end = n + new.len();
-        self.steps[n..end].copy_from_slice(new);
-        self.steps[at..end].rotate_right(new.len());
-        self.len = end;
+        self.steps.copy_within(at..self.len, at + new.len());
+        self.steps[at..at + new.len()].copy_from_slice(new);
+        self.len += new.len();
     }
 }
 

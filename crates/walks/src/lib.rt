@@ -2,5 +2,6 @@
 #![tactic(auto)]
 
 pub mod editing;
+pub mod fault;
 pub mod table;
 pub mod walk;

@@ -1,5 +1,5 @@
-use Rattle.numbers.proofs.Answered.{single, results}
+use Rattle.numbers.proofs.Answered.{results}
 use Rattle.numbers.proofs.laws.results_stand.Goals as goal
 
-pub returns : goal.returns
-returns g c = record { single = single g.met.K.Kind.lawful; results = results g.met.K.Kind.lawful }
+pub returns-clause-results : goal.returns-clause-results
+returns-clause-results g c = results g.met.K.Kind.lawful

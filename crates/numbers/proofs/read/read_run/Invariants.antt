@@ -5,6 +5,5 @@ use Rattle.numbers.proofs.read.read_run.Given as goal
 -- the rows before the index are read, and the rest of the bytes is left
 abbrev pub invariant-loop-index : goal.invariant-loop-index
 invariant-loop-index g l =
-    RunTo g.K.Kind.numbers g.K.Kind.layout l.bytes l.initial.rows l.rows l.index
-    × (l.rest ≡ from g.K.Kind.numbers g.K.Kind.layout l.bytes l.index)
-    × (l.width ≡ g.K.Kind.layout.width)
+    RunTo g.K.Kind.numbers g.K.Kind.layout l.bytes l.initial.rows l.rows l.index-counter
+    × (l.rest ≡ from g.K.Kind.numbers g.K.Kind.layout l.bytes l.index-counter)

@@ -5,4 +5,4 @@ use Rattle.rewriting.proofs.Replaying.{Walked}
 use Rattle.rewriting.proofs.replay.replay.Given as goal
 
 abbrev pub invariant-loop-i : goal.invariant-loop-i
-invariant-loop-i l = Walked (take l.i (map meant l.steps)) (on l.initial.board) (on l.board)
+invariant-loop-i l = Walked (take l.i-counter (map meant l.steps)) (on l.initial.board) (on l.board)

@@ -1,22 +1,16 @@
 use Rattle.std.proofs.Common.{◌≡◌, ℕ, ◌+◌, ◌*◌, ◌<◌, subst, mul-pos, arith}
-use Rattle.std.proofs.lemmas.Nat.{mul-le}
 use Rattle.numbers.specs.Numbers.{Answers}
 use Rattle.kinds.specs.Fractions.{fractions, over}
 use Rattle.kinds.specs.Lowered.{fractions_lawful, sum_over}
 use Rattle.numbers.proofs.Answered.{answers_same}
 use Rattle.kinds.proofs.fraction.FractionKind.sum.Goals as goal
 
--- the cross products of stored numbers are small
-pub returns-in_default : goal.returns-in_default
-returns-in_default c h k =
-    absurd (c.in_default.ensures (omega (arith, mul-le _ _ _ _ h.numerator_to k.denominator_to, mul-le _ _ _ _ k.numerator_to h.denominator_to)))
-
 pub returns : goal.returns
 returns c h k =
     let p = c.args.self in
     let r = c.args.other in
-    let top : c.in-Some.top ≡ p.numerator * r.denominator + r.numerator * p.denominator = c.in-Some.ensures.1 in
-    let positive : 0 < c.in-Some.top = omega (arith, top, mul-pos h.numerator_from k.denominator_from) in
+    let top : c.in_ok-top.top ≡ p.numerator * r.denominator + r.numerator * p.denominator = (rw c.in_ok-top.ensures.ok_part at c.checked_add.ensures).1 in
+    let positive : 0 < c.in_ok-top.top = omega (arith, top, mul-pos h.numerator_from k.denominator_from) in
     let P : ℕ → Type 0 = λ t. Answers fractions (over t (p.denominator * r.denominator)) c.reduced.result in
     answers_same fractions_lawful c.reduced.result
     (sum_over p.numerator p.denominator r.numerator r.denominator h.numerator_from h.denominator_from k.numerator_from k.denominator_from)

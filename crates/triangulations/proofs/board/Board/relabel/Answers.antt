@@ -1,34 +1,24 @@
-use Rattle.std.proofs.Common.{◌<◌, ◌≢◌, length, sym, refl, ap, ◌∙◌, arith, get_or-set_other, get_or-set_same, below_more}
-use Rattle.std.proofs.lemmas.List.{length-set}
+use Rattle.std.proofs.Common.{◌≡◌, ℕ, List, None, Option, rules}
+use Rattle.std.specs.Array.{IsFromFnResult}
+use Rattle.std.specs.Fn.{Called}
+use denote.Param.Members.{Mut}
+use Rattle.triangulations.specs.declared.board.Board.{Board}
+use Rattle.triangulations.specs.declared.step.Label.{Label}
 use Rattle.triangulations.specs.Steps.{renamed}
-use Rattle.triangulations.specs.Boards.{table, on}
-use Rattle.triangulations.specs.Meaning.{naming, meant_label}
-use Rattle.triangulations.proofs.Moved.{keeps, relabelled_board, label_stepped, label_legal}
+use Rattle.triangulations.specs.Boards.{table}
+use Rattle.triangulations.specs.Meaning.{naming, meant_label, NamesLabel}
+use Rattle.triangulations.proofs.Made.{made}
+use Rattle.triangulations.proofs.Moved.{Kept, label_kept}
 use Rattle.triangulations.proofs.board.Board.relabel.Goals as goal
 
-pub loop-d-preserved : goal.loop-d-preserved
-loop-d-preserved c =
-    let xs = c.loop-d.next in
-    let d = c.loop-d.d in (
-      length-set xs d _ ∙ c.loop-d.invariant.0,
-      below_more _ _
-          (λ k h. let ne : k ≢ d = omega arith in get_or-set_other xs d k _ _ ne ∙ c.loop-d.invariant.1 k h)
-          (let lt : d < length xs = omega (arith, c.loop-d.invariant.0) in
-          get_or-set_same xs d _ _ lt ∙ (c.renamed.ensures ∙ ap (renamed (naming c.args.label)) (c.after.ensures ∙ ap (table c.args.self.now) c.named.ensures))),
-    )
+kept : (x : Board) (l : Label) (ys : List (Option ℕ)) {F : Type 0} (g : Mut F (ℕ × Unit {0}) (Option ℕ)) (f : F) → NamesLabel l x.table.edges → IsFromFnResult g f ys 128
+    → ((i : ℕ) (q : F) (y : Option ℕ) → Called g f (i, tt) y q → (q ≡ f) × (y ≡ renamed (naming l) (table x (naming l i)))) → Kept x (meant_label l) ys
+kept x l ys g f h items given = label_kept x l h ys items.long (λ k below. made g f (λ i y. y ≡ renamed (naming l) (table x (naming l i))) given ys 128 items k None below)
 
 pub invariant_of-self : goal.invariant_of-self
 invariant_of-self c =
-    let x = c.args.self.now in
-    let h = c.if-not-names.ensures.0 refl in
-    let e = relabelled_board x c.args.label h c.loop-d.next c.loop-d.invariant.0 (λ k l. c.loop-d.invariant.1 k (omega arith)) in
-    let k = keeps x (meant_label c.args.label) c.loop-d.next (label_legal c.args.label (on x) h) (c.loop-d.invariant.0 ∙ sym x.full) (e ∙ sym (label_stepped c.args.label (table x))) in
-    record { few = k.few; full = k.full; lawful = k.lawful }
+    let k = kept c.args.self.now c.args.label _ _ _ (c.names.ensures.0 (search rules)) c.from_fn-self.ensures.items (λ i q y called. search rules) in
+    ((k.few, (k.full, tt)), (k.lawful, tt))
 
-pub returns : goal.returns
-returns c =
-    let x = c.args.self.now in
-    let h = c.if-not-names.ensures.0 refl in
-    let e = relabelled_board x c.args.label h c.loop-d.next c.loop-d.invariant.0 (λ k l. c.loop-d.invariant.1 k (omega arith)) in
-    let k = keeps x (meant_label c.args.label) c.loop-d.next (label_legal c.args.label (on x) h) (c.loop-d.invariant.0 ∙ sym x.full) (e ∙ sym (label_stepped c.args.label (table x))) in
-    record { legal = (λ _. h, λ _. refl); moved = k.moved }
+pub returns-clause-moved : goal.returns-clause-moved
+returns-clause-moved c = (kept c.args.self.now c.args.label _ _ _ (c.names.ensures.0 (search rules)) c.from_fn-self.ensures.items (λ i q y called. search rules)).moved

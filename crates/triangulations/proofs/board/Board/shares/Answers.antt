@@ -1,4 +1,4 @@
-use Rattle.std.proofs.Common.{sym, ⊎_elim, rules}
+use Rattle.std.proofs.Common.{sym, ⊎_elim}
 use Rattle.triangulations.proofs.Moved.{shares_none, shares_past}
 use Rattle.triangulations.proofs.board.Board.shares.Goals as goal
 
@@ -8,9 +8,3 @@ returns-then-e-ge-MOST_EDGES c =
     let e = c.args.e in
     let f = c.args.f in
     ⊎_elim (λ h. sym (shares_none x e f h)) (λ h. sym (shares_past x e f h.1)) c.then-e-ge-MOST_EDGES.either
-
-pub returns-then-meets : goal.returns-then-meets
-returns-then-meets c = search rules
-
-pub returns-else-meets : goal.returns-else-meets
-returns-else-meets c = search rules

@@ -1,16 +1,8 @@
-use Rattle.std.proofs.Common.{refl, arith, rules}
-use Rattle.std.proofs.lemmas.List.{places}
-use Rattle.std.proofs.lemmas.Slice.{between_is}
-use Rattle.walks.proofs.Cuts.{turned}
+use Rattle.std.proofs.Common.{ap, ◌∙◌, ◌-◌, take, arith}
+use Rattle.walks.proofs.Cuts.{closed_up}
 use Rattle.walks.proofs.walk.Walk.cut.Goals as goal
 
-pub invariant_of-self : goal.invariant_of-self
-invariant_of-self c = record { few = omega arith; full = search (rules, places) }
-
-pub returns : goal.returns
-returns c =
+pub returns-clause-rest : goal.returns-clause-rest
+returns-clause-rest c =
     let w = c.args.self.now in
-    record {
-      len = refl;
-      rest = turned w.steps c.args.at w.len c.args.taken _ c.rotate_left.new.self _ (omega arith) (omega arith) (between_is w.steps c.args.at w.len) c.rotate_left.ensures.after;
-    }
+    ap (take (w.len - c.args.taken)) c.copy_within.ensures.after ∙ closed_up w.steps c.args.at w.len c.args.taken (omega arith) (omega arith)

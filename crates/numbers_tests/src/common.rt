@@ -1,0 +1,9 @@
+use kinds::fraction::Fraction;
+
+/// The fraction with these parts, whether stored or not.
+pub fn fraction((numerator, denominator): (u32, u32)) -> Fraction {
+    Fraction {
+        numerator,
+        denominator,
+    }
+}

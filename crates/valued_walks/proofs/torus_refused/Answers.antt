@@ -1,7 +1,0 @@
-use Rattle.std.proofs.Common.{refl}
-use Rattle.triangulations.specs.Steps.{flipped_by, triangle}
-use Rattle.valued_walks.proofs.torus_refused.Goals as goal
-
-pub returns : goal.returns
-unfolding flipped_by triangle
-returns c = refl
