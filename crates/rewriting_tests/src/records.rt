@@ -1,8 +1,7 @@
-use crate::common::walk_of;
+use crate::common::{holds, record_of, walk_of};
 use polygon_counting::diagonal::Diagonal;
 use polygons::polygon::Polygon;
 use rewriting::rewrite::rewrite;
-use rewriting_records::record::Record;
 use std::process::Abort;
 use std::test::Fail;
 use surfaces::loading::load;
@@ -29,24 +28,6 @@ fn heptagon() -> Result<Board, Fail> {
     ];
     load(&Polygon::new(7, &diagonals)?, &mut board);
     Ok(board)
-}
-
-fn holds(rt: &impl Abort, walk: &Walk, records: &[[u8; 3]]) {
-    let written = walk.steps().iter().map(|step| step.write());
-    assert!(rt; written.eq(records.iter().copied()));
-}
-
-// A record as its seven bytes stand in a file.
-fn record_of(bytes: [u8; 7]) -> Record {
-    let [rule, way, high, low, code, e, f] = bytes;
-    Record {
-        rule,
-        way,
-        place: u16::from_be_bytes([high, low]),
-        code,
-        e,
-        f,
-    }
 }
 
 fn becomes(
