@@ -58,11 +58,14 @@ impl Site<'_> {
     pub fn split_double(&mut self) -> Result<(), RewritingFault>
         ensures { Makes self.old self.new result (split self.old.place (on self.old.there.now).next (first self.old)) }
     {
-        let edge = turn_in(self.first()?).ok_or(self.no_form())?;
-        if !self.there.is_flippable(edge) {
-            return Err(self.no_condition());
+        // A rule of the project: guards on the steps found and on the triangulation there.
+        match turn_in(self.first()?) {
+            Some(edge) if self.there.is_flippable(edge) => {
+                self.substitute(&[Step::turn(edge)], &[Step::left(edge), Step::left(edge)])
+            }
+            Some(_) => Err(self.no_condition()),
+            None => Err(self.no_form()),
         }
-        self.substitute(&[Step::turn(edge)], &[Step::left(edge), Step::left(edge)])
     }
 
     /// Two flips whose edges share no triangle there change places.
