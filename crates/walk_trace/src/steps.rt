@@ -17,7 +17,7 @@ use triangulations::step::Step;
 
 impl Trace<'_> {
     /// Reads and does one step of the walk after the other, and lists what each did.
-    pub fn push_steps<K: Kind>(&mut self, rows: &mut [K]) -> Result<(), Stop> {
+    pub(crate) fn push_steps<K: Kind>(&mut self, rows: &mut [K]) -> Result<(), Stop> {
         let count = read_walk_count(&mut self.walk)?;
         writeln!(self.text, "steps: {count}")?;
         // Each turn reads on in the file and may refuse, by its index.

@@ -3,7 +3,7 @@ use std::alloc::{AllocError, AllocFailed};
 
 /// Why a trace stops before its end.
 #[derive(Clone, Copy, Drop)]
-pub enum Stop {
+pub(crate) enum Stop {
     /// There is no memory for the text.
     Memory,
     /// The case is refused.

@@ -10,7 +10,7 @@ use triangulations::board::Board;
 /// A trace under way: the walk as far as it is still to be read, the board that the steps so far reach, and what there is to say
 /// of them.
 #[derive(Drop)]
-pub struct Trace<'a> {
+pub(crate) struct Trace<'a> {
     pub walk: Cursor<'a>,
     pub board: Board,
     pub text: String,
@@ -18,7 +18,7 @@ pub struct Trace<'a> {
 
 impl<'a> Trace<'a> {
     /// A trace with no text, at the start of a walk on the surface.
-    pub fn new<S: Surface>(heap: Global, surface: &S, walk: Cursor<'a>) -> Trace<'a> {
+    pub(crate) fn new<S: Surface>(heap: Global, surface: &S, walk: Cursor<'a>) -> Trace<'a> {
         let mut board = Board::new();
         load(surface, &mut board);
         Trace {
@@ -29,7 +29,7 @@ impl<'a> Trace<'a> {
     }
 
     /// Every triangle, a line each, by the smallest dart.
-    pub fn push_triangles(&mut self, title: &str) -> Result<(), AllocError> {
+    pub(crate) fn push_triangles(&mut self, title: &str) -> Result<(), AllocError> {
         self.text.push_str(title)?;
         let listed = |dart| Triangle::of(&self.board, dart).filter(|found| found.first == dart);
         for triangle in (0..2 * self.board.edges()).filter_map(listed) {
@@ -39,7 +39,11 @@ impl<'a> Trace<'a> {
     }
 
     /// Every value, a line each, by its edge; nothing where there are none.
-    pub fn push_values<K: Kind>(&mut self, title: &str, rows: &[K]) -> Result<(), AllocError> {
+    pub(crate) fn push_values<K: Kind>(
+        &mut self,
+        title: &str,
+        rows: &[K],
+    ) -> Result<(), AllocError> {
         if rows.is_empty() {
             return Ok(());
         }
@@ -53,7 +57,7 @@ impl<'a> Trace<'a> {
 
 /// Prints a number, whose text has at most 32 bytes.
 #[derive(Clone, Copy)]
-pub struct NumberText<K>(pub K);
+pub(crate) struct NumberText<K>(pub K);
 
 impl<K: Kind> fmt::Display for NumberText<K> {
     fn fmt<W: fmt::Write>(&self, f: &mut fmt::Formatter<W>) -> fmt::Result {

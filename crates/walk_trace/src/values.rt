@@ -7,7 +7,7 @@ use std::alloc::Global;
 
 /// Looks past the walk, the second walk and the rewritings for the values. There are none where the file ends with the walk or
 /// in it: a walk that is cut short is refused when it is done.
-pub fn find_values(ahead: &mut Cursor) -> Result<Option<ValuesHead>, Refusal> {
+pub(crate) fn find_values(ahead: &mut Cursor) -> Result<Option<ValuesHead>, Refusal> {
     if pass_section(3, ahead).is_err() || ahead.is_at_end() {
         return Ok(None);
     }
@@ -17,7 +17,7 @@ pub fn find_values(ahead: &mut Cursor) -> Result<Option<ValuesHead>, Refusal> {
 }
 
 /// Reads the values whose head was read: none, or one for each edge.
-pub fn read_rows<K: Kind>(
+pub(crate) fn read_rows<K: Kind>(
     heap: Global,
     head: ValuesHead,
     edges: u8,
