@@ -32,7 +32,7 @@ module _ {F : Field} (laws : Laws F) where
       (chain (laws.distrib z x y) (plus (laws.product_comm z x) (laws.product_comm z y)))
 
   -- x (y z) ~ y (x z)
-  product_swap : (x y z : F.Exact) → F.same (F.product x (F.product y z)) (F.product y (F.product x z))
+  pub product_swap : (x y z : F.Exact) → F.same (F.product x (F.product y z)) (F.product y (F.product x z))
   product_swap x y z =
       chain (back (laws.product_assoc x y z))
       (chain (times_left z (laws.product_comm x y)) (laws.product_assoc y x z))

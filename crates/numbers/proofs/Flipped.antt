@@ -16,12 +16,12 @@ use Rattle.numbers.proofs.Answered.{answers_same, results, no_result}
 -- an operation's answer, with its place
 module _ {N : Type 0} (K : Numbers N) {x : K.exact.Exact} (o : Operation) where
   -- it was n
-  stands_from : (r : Result N RangeFault) {n : N} → with_place o r ≡ Ok n → Answers K x r → Stands K x n
+  pub stands_from : (r : Result N RangeFault) {n : N} → with_place o r ≡ Ok n → Answers K x r → Stands K x n
   stands_from (Ok m) {n = n} e h = let same : m ≡ n = cc in subst (λ (k : N). Stands K x k) same h
   stands_from (Err d) e h = cc
 
   -- it was a refusal
-  refused_from : (r : Result N RangeFault) {f : Placed Operation RangeFault} → with_place o r ≡ Err f → Answers K x r → (f.place ≡ o) × (Held K x → ⊥)
+  pub refused_from : (r : Result N RangeFault) {f : Placed Operation RangeFault} → with_place o r ≡ Err f → Answers K x r → (f.place ≡ o) × (Held K x → ⊥)
   refused_from (Ok m) e h = cc
   refused_from (Err d) {f = f} e h =
       let whole : record { place = o; fault = d } ≡ f = cc in (sym (ap (λ (s : Placed Operation RangeFault). s.place) whole), h)
@@ -35,7 +35,7 @@ module _ {N : Type 0} {K : Numbers N} (lawful : Lawful K) (s : Sides N) where
       rw (results lawful _ _ h.0.1, results lawful _ _ h.1.1, results lawful _ _ h.2.1, no_result lawful _ h.3) refl
 
   -- what the answer has to say fixes it
-  settled : (r : Result N FlipFault) → Flips K s r → r ≡ flip_result K s
+  pub settled : (r : Result N FlipFault) → Flips K s r → r ≡ flip_result K s
   settled (Ok n) h =
       rw (results lawful _ _ h.first_held.1, results lawful _ _ h.second_held.1, results lawful _ _ h.both_held.1, results lawful _ _ h.stands) refl
   settled (Err f) h = blocked f.operation f.fault h

@@ -1,5 +1,5 @@
 -- What a search finds.
-use Rattle.std.proofs.Common.{◌≡◌, ℕ, zero, suc, ◌<◌, ◌≤◌, Bool, true, false, cond, ltb, List, length, get_or, Some, None, Option, sym, refl, ap, ◌∙◌, inl, inr, arith}
+use Rattle.std.proofs.Common.{◌≡◌, ℕ, zero, suc, ◌<◌, ◌≤◌, Bool, true, false, cond, ltb, List, length, get_or, Some, None, Option, sym, refl, ap, ◌∙◌, subst, inl, inr, arith}
 use Rattle.std.proofs.lemmas.Bool.{cases_lt, cases_order, cond-true, cond-false, lt-ltb, false_from_ne_true}
 use Rattle.std.proofs.lemmas.List.Sums.{position_or_len_is}
 use Rattle.std.specs.List.{position, position_or_len}
@@ -45,6 +45,15 @@ module _ (n : ℕ) (p : ℕ → Bool) where
         cond-true (p k) (Some k) None t,
         λ l m. cond-false (p l) (Some l) None (false_from_ne_true (p l) (λ e. omega (arith, u l (omega arith) e))),
       ))
+
+  pub found_below : (k : ℕ) → first_below n p ≡ Some k → k < n
+  unfolding first_below
+  found_below k e = (let w = subst (Tells n (λ k. cond (p k) (Some k) None)) e (first_tells n (λ k. cond (p k) (Some k) None)) in
+      let i = passed (p w.0) w.0 k w.2 in omega (arith, w.1))
+    where
+      passed : (b : Bool) (i k : ℕ) → cond b (Some i) None ≡ Some k → i ≡ k
+      passed true i k e = cc
+      passed false i k e = cc
 
   -- what a search of the numbers from 0 finds
   pub range_found : (o : Option ℕ) → MatchOption o ((k : ℕ) → 0 ≤ k → k < n → p k ≡ false) (λ i. (0 ≤ i) × (i < n) × (p i ≡ true) × ((k : ℕ) → 0 ≤ k → k < i → p k ≡ false))

@@ -1,20 +1,24 @@
 -- Counts and diagonals have no fault exactly when they are admitted.
-use Rattle.std.proofs.Common.{◌≡◌, ℕ, ◌-◌, ◌<◌, ◌≤◌, true, cond, not, List, length, take, Some, None, sym, ap, ◌∙◌, arith}
+use Rattle.std.proofs.Common.{◌≡◌, ℕ, ◌-◌, ◌<◌, ◌≤◌, true, false, cond, not, List, length, take, Decides, Option, Some, None, sym, ap, ◌∙◌, arith}
 use Rattle.std.proofs.lemmas.Bool.Decides.{nat_tests}
-use Rattle.std.proofs.lemmas.Bool.{cond-true}
+use Rattle.std.proofs.lemmas.Bool.{false≢true, cond-true, cond-false}
 use Rattle.std.proofs.lemmas.List.{get_or-take, length-take-le}
 use Rattle.std.proofs.lemmas.List.Elements.{All-from_get_or}
 use Rattle.std.proofs.lemmas.List.Sums.{list_all-from_AllPass}
-use Rattle.surfaces.specs.declared.faults.SurfaceFault.TheVariants.{NotDiagonal, Crosses}
+use Rattle.surfaces.specs.declared.faults.SurfaceFault.{SurfaceFault}
+use Rattle.surfaces.specs.declared.faults.SurfaceFault.TheVariants.{CountOutside, NotDiagonal, Crosses}
 use Rattle.polygon_counting.specs.declared.diagonal.Diagonal.{Diagonal}
 use Rattle.polygon_counting.specs.Diagonals.{at, proper, clashes, Uncrossed}
 use Rattle.polygon_counting.proofs.Searching.{told_first}
-use Rattle.polygons.specs.Judging.{Admitted, clear, diagonal_fault, first_fault, counts_fit}
+use Rattle.polygons.specs.Judging.{Admitted, clear, diagonal_fault, first_fault, counts_fit, polygon_fault}
 use Rattle.polygons.specs.Admission.{uncrossed}
 
--- what counts that fit tell
+-- what counts that fit tell, and back
 counts_are : (n m : ℕ) → counts_fit n m ≡ true → (3 ≤ n) × (n ≤ 33) × (m ≡ n - 3)
 counts_are n m t = (grind (arith, nat_tests), grind (arith, nat_tests), grind (arith, nat_tests))
+
+counts_from : (n m : ℕ) → 3 ≤ n → n ≤ 33 → m ≡ n - 3 → counts_fit n m ≡ true
+counts_from n m h k e = grind (arith, nat_tests)
 
 -- diagonals that neither cross nor repeat one another have no fault
 module _ (n : ℕ) (ds : List Diagonal) (un : Uncrossed n ds) where
@@ -36,3 +40,19 @@ pub admitted : (n : ℕ) (ds : List Diagonal) → counts_fit n (length ds) ≡ t
 admitted n ds e p =
     let c = counts_are n (length ds) e in
     record { least = c.0; most = c.1; full = omega (arith, c.0, c.2); uncrossed = uncrossed n ds p }
+
+-- why counts and diagonals make no polygon, and that those that are admitted make one
+module _ (n : ℕ) (ds : List Diagonal) where
+  pub count_refused : counts_fit n (length ds) ≡ false → polygon_fault n ds ≡ Some CountOutside
+  count_refused e = cond-false (counts_fit n (length ds)) (first_fault n ds) (Some CountOutside) e
+
+  pub diagonals_judged : counts_fit n (length ds) ≡ true → {o : Option SurfaceFault} → first_fault n ds ≡ o → polygon_fault n ds ≡ o
+  diagonals_judged e p = cond-true (counts_fit n (length ds)) (first_fault n ds) (Some CountOutside) e ∙ p
+
+  pub faultless : Admitted n ds → polygon_fault n ds ≡ None
+  faultless a =
+      let e = counts_from n (length ds) a.least a.most (omega (arith, a.full)) in
+      diagonals_judged e (none_first n ds a.uncrossed)
+
+  pub not_admitted : (e : SurfaceFault) → polygon_fault n ds ≡ Some e → Decides false (Admitted n ds)
+  not_admitted e p = (λ z. absurd (false≢true z), λ a. absurd (cc (p, faultless a)))

@@ -70,7 +70,7 @@ module _ (p : ℕ) (held old new : List Step) where
       let n = long (within h e) in
       becomes e ∙ when_yes (leb (length (map meant (replaced p (length old) new held))) 256) _ _ (le→leb _ _ (omega arith))
 
-  overlong : p ≤ length held → Stand p held old → 256 < length held - length old + length new
+  pub overlong : p ≤ length held → Stand p held old → 256 < length held - length old + length new
       → done p (map meant held) (Ok (record { old = map meant old; new = map meant new })) ≡ Err TooLong
   overlong h e k =
       let n = long (within h e) in

@@ -61,7 +61,7 @@ module _ {X : Type 0} where
   second_put (x ∷ xs) (suc p) a b h = (λ i. slice_get (replaced_suc p 2 (b ∷ a ∷ []) x xs i) (after_first p i)) ∙ second_put xs p a b (omega arith)
 
 -- a walk holds at most 256 steps
-held_few : (w : Walk) → length (held w) ≤ 256
+pub held_few : (w : Walk) → length (held w) ≤ 256
 held_few w = let few = w.few in let full = w.full in let l = length-take w.len w.steps in omega arith
 
 -- the place of the label step, that step, and the one that it passes
@@ -94,14 +94,14 @@ module _ (w : Walk) (p : ℕ) (inside : p ≤ length (held w)) (a b : Step) (ha 
   judged to = of_two p (carried p to) (option_map meant (slice_get (held w) p)) (option_map meant (slice_get (held w) (p + 1)))
 
   -- where each stands once they have changed places
-  first_crossed : (u : List Step) → u ≡ replaced p 2 (b ∷ a ∷ []) (held w) → slice_get u p ≡ Some b
+  pub first_crossed : (u : List Step) → u ≡ replaced p 2 (b ∷ a ∷ []) (held w) → slice_get u p ≡ Some b
   first_crossed u e = ap (λ v. slice_get v p) e ∙ first_put (held w) p a b inside
 
-  second_crossed : (u : List Step) → u ≡ replaced p 2 (b ∷ a ∷ []) (held w) → slice_get u (p + 1) ≡ Some a
+  pub second_crossed : (u : List Step) → u ≡ replaced p 2 (b ∷ a ∷ []) (held w) → slice_get u (p + 1) ≡ Some a
   second_crossed u e = ap (λ v. slice_get v (p + 1)) e ∙ second_put (held w) p a b inside
 
   -- a swap moves to the right or to the left, and the step that it passed is renamed
-  swap_right : (l : Label) (e f : ℕ) → a ≡ step.Label l → l ≡ Swap e f → (u v : List Step) → u ≡ replaced p 2 (b ∷ a ∷ []) (held w)
+  pub swap_right : (l : Label) (e f : ℕ) → a ≡ step.Label l → l ≡ Swap e f → (u v : List Step) → u ≡ replaced p 2 (b ∷ a ∷ []) (held w)
       → v ≡ replaced p 1 (renamed_named e f b ∷ []) u → done p (map meant (held w)) (judged Right) ≡ Ok (map meant v)
   swap_right l e f is_label is_swap u v one two =
       let is : a ≡ step.Label (Swap e f) = is_label ∙ ap step.Label is_swap in
@@ -110,7 +110,7 @@ module _ (w : Walk) (p : ℕ) (inside : p ≤ length (held w)) (a b : Step) (ha 
       ∙ (λ i. Ok (record { old = meant (sym is i) ∷ meant b ∷ []; new = sym (meant_renamed e f b) i ∷ meant (sym is i) ∷ [] })))
       (two ∙ (ap (replaced p 1 (renamed_named e f b ∷ [])) one ∙ first_again (held w) p a b (renamed_named e f b) inside))
 
-  swap_left : (l : Label) (e f : ℕ) → b ≡ step.Label l → l ≡ Swap e f → (u v : List Step) → u ≡ replaced p 2 (b ∷ a ∷ []) (held w)
+  pub swap_left : (l : Label) (e f : ℕ) → b ≡ step.Label l → l ≡ Swap e f → (u v : List Step) → u ≡ replaced p 2 (b ∷ a ∷ []) (held w)
       → v ≡ replaced (p + 1) 1 (renamed_named e f a ∷ []) u → done p (map meant (held w)) (judged Left) ≡ Ok (map meant v)
   swap_left l e f is_label is_swap u v one two =
       let is : b ≡ step.Label (Swap e f) = is_label ∙ ap step.Label is_swap in
@@ -120,7 +120,7 @@ module _ (w : Walk) (p : ℕ) (inside : p ≤ length (held w)) (a b : Step) (ha 
       (two ∙ (ap (replaced (p + 1) 1 (renamed_named e f a ∷ [])) one ∙ second_again (held w) p a b (renamed_named e f a) inside))
 
   -- a turn moves past a flip or a turn
-  turn_right : (l : Label) (e : ℕ) → a ≡ step.Label l → l ≡ Turn e → true ≡ passed (meant b) → (u : List Step) → u ≡ replaced p 2 (b ∷ a ∷ []) (held w)
+  pub turn_right : (l : Label) (e : ℕ) → a ≡ step.Label l → l ≡ Turn e → true ≡ passed (meant b) → (u : List Step) → u ≡ replaced p 2 (b ∷ a ∷ []) (held w)
       → done p (map meant (held w)) (judged Right) ≡ Ok (map meant u)
   turn_right l e is_label is_turn pass u one =
       let is : a ≡ step.Label (Turn e) = is_label ∙ ap step.Label is_turn in
@@ -129,7 +129,7 @@ module _ (w : Walk) (p : ℕ) (inside : p ≤ length (held w)) (a b : Step) (ha 
       ∙ (when_yes (passed (meant b)) _ _ (subst Yes pass tt)
       ∙ (λ i. Ok (record { old = meant (sym is i) ∷ meant b ∷ []; new = meant b ∷ meant (sym is i) ∷ [] })))) one
 
-  turn_left : (l : Label) (e : ℕ) → b ≡ step.Label l → l ≡ Turn e → true ≡ passed (meant a) → (u : List Step) → u ≡ replaced p 2 (b ∷ a ∷ []) (held w)
+  pub turn_left : (l : Label) (e : ℕ) → b ≡ step.Label l → l ≡ Turn e → true ≡ passed (meant a) → (u : List Step) → u ≡ replaced p 2 (b ∷ a ∷ []) (held w)
       → done p (map meant (held w)) (judged Left) ≡ Ok (map meant u)
   turn_left l e is_label is_turn pass u one =
       let is : b ≡ step.Label (Turn e) = is_label ∙ ap step.Label is_turn in

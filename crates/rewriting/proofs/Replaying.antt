@@ -40,7 +40,7 @@ module _ (w : List Step) (t u : Triangulation) (k : ℕ) (s : Step) (within : k 
         leads_there = e ∙ (ap (apply_step s) so_far.leads_there ∙ (sym (leads-++ (take k w) (s ∷ []) t) ∙ ap (λ p. leads p t) (sym longer)));
       }
 
-  stops : (v : Triangulation) → (LegalStep s u → ⊥) → v ≡ u → Told w t v k
+  pub stops : (v : Triangulation) → (LegalStep s u → ⊥) → v ≡ u → Told w t v k
   stops v never e =
       let F : Triangulation → Type 0 = λ x. LegalStep s x in
       let told = sym (ap (λ p. first_illegal p t) parts ∙ (illegal_at (take k w) s (drop (k + 1) w) t so_far.legal (λ h. never (subst F (sym so_far.leads_there) h)) ∙ ap Some long)) in

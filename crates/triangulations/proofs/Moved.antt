@@ -1,5 +1,5 @@
 -- What a step does to the table on a board.
-use Rattle.std.proofs.Common.{◌≡◌, ℕ, ◌+◌, ◌*◌, ◌<◌, ◌≤◌, Bool, true, false, cond, not, ◌&&◌, ◌||◌, T as Yes, eqb, List, length, get_or, Option, Some, None, sym, refl, ap, ◌∙◌, subst, arith, ne_eqb}
+use Rattle.std.proofs.Common.{◌≡◌, ℕ, ◌+◌, ◌*◌, ◌<◌, ◌≤◌, Bool, true, false, cond, not, ◌&&◌, ◌||◌, T as Yes, eqb, List, length, get_or, Decides, Option, Some, None, sym, refl, ap, ◌∙◌, subst, arith, ne_eqb}
 use native.Mathlib.Decide.{dec_lt}
 use mathlib.Core.Path.{fun_ext}
 use Rattle.triangulations.specs.Triangulations.{is_some, Table, Triangulation, Lawful, after, inside, together, flippable, meets, shares}
@@ -138,11 +138,11 @@ naming_past : (l : Label) → NamesLabel l 64 → (d : ℕ) → 128 ≤ d → na
 naming_past (Turn e) h d k = turn_else e d (λ q. absurd (omega arith)) (λ q. absurd (omega arith))
 naming_past (Swap e f) h d k = let h0 = h.0 in let h1 = h.1 in swap_other e f d (λ q. absurd (omega arith)) (λ q. absurd (omega arith)) (λ q. absurd (omega arith)) (λ q. absurd (omega arith))
 
-names_few : (l : Label) (m n : ℕ) → m ≤ n → NamesLabel l m → NamesLabel l n
+pub names_few : (l : Label) (m n : ℕ) → m ≤ n → NamesLabel l m → NamesLabel l n
 names_few (Turn e) m n h k = omega arith
 names_few (Swap e f) m n h k = let k1 = k.1 in (k.0, omega arith)
 
-relabelled_board : (x : Board) (l : Label) → NamesLabel l x.table.edges → (ys : List (Option ℕ)) → length ys ≡ 128
+pub relabelled_board : (x : Board) (l : Label) → NamesLabel l x.table.edges → (ys : List (Option ℕ)) → length ys ≡ 128
     → ((k : ℕ) → k < 128 → table_of ys k ≡ renamed (naming l) (table x (naming l k))) → table_of ys ≡ relabelled (naming l) (table x)
 unfolding relabelled
 relabelled_board x l h ys long each = fun_ext (λ d. go d (dec_lt d 128))
@@ -153,11 +153,11 @@ relabelled_board x l h ys long each = fun_ext (λ d. go d (dec_lt d 128))
         let full = x.table.full in
         beyond ys d (omega arith) ∙ sym (ap (renamed (naming l)) (ap (table x) (naming_past l (names_few l x.table.edges 64 x.table.few h) d (omega arith)) ∙ beyond x.table.next d (omega arith)))
 
-label_stepped : (l : Label) (t : Table) → stepped (meant_label l) t ≡ relabelled (naming l) t
+pub label_stepped : (l : Label) (t : Table) → stepped (meant_label l) t ≡ relabelled (naming l) t
 label_stepped (Turn e) t = refl
 label_stepped (Swap e f) t = refl
 
-label_legal : (l : Label) (t : Triangulation) → NamesLabel l t.edges → LegalStep (meant_label l) t
+pub label_legal : (l : Label) (t : Triangulation) → NamesLabel l t.edges → LegalStep (meant_label l) t
 label_legal (Turn e) t h = h
 label_legal (Swap e f) t h = h
 
@@ -190,6 +190,19 @@ shares_past x e f h = let few = x.table.few in λ i. meets_past (on x) (law x) (
 
 pub shares_none : (x : Board) (e f : ℕ) → 64 ≤ e → shares (table x) e f ≡ false
 shares_none x e f h = let full = x.table.full in λ i. meets_none x.table.next (2 * e) f (omega arith) i || meets_none x.table.next (2 * e + 1) f (omega arith) i
+
+yes_true : (b : Bool) → Yes b → b ≡ true
+yes_true true h = refl
+yes_true false h = absurd h
+
+-- a test for the condition of a step decides whether the step is legal
+pub flip_decides : (w : Direction) (e : ℕ) (t : Triangulation) (r : Bool) → r ≡ flippable t.next e → Decides r (LegalStep (flip_step w e) t)
+flip_decides left e t r h = (λ q. subst Yes (sym (sym h ∙ q)) tt, λ y. h ∙ yes_true _ y)
+flip_decides right e t r h = (λ q. subst Yes (sym (sym h ∙ q)) tt, λ y. h ∙ yes_true _ y)
+
+pub label_decides : (l : Label) (t : Triangulation) (r : Bool) → Decides r (NamesLabel l t.edges) → Decides r (LegalStep (meant_label l) t)
+label_decides (Turn e) t r h = h
+label_decides (Swap e f) t r h = h
 
 -- an edge past the stored darts cannot be flipped
 pub flippable_past : (xs : List (Option ℕ)) (e : ℕ) → length xs ≤ 2 * e → flippable (table_of xs) e ≡ false

@@ -1,5 +1,5 @@
 ghost use Rattle.std.specs.Prelude.{◌≡◌, ◌+◌, ◌-◌, ◌≤◌, [], ◌∷◌, ◌++◌, length, take, drop, if◌then◌else◌, is_ok, OnErr, nat_lt};
-ghost use Rattle.std.specs.List.{slice_get};
+ghost use Rattle.std.specs.List.{slice_get, copy_within};
 ghost use Rattle.walks.specs.declared.fault.EditFault.TheVariants.{NoSteps};
 ghost use Rattle.walks.specs.Walks.{held, replaceable, replaced, renamed_label, renamed_named};
 
@@ -9,6 +9,9 @@ use crate::walk::Walk;
 use triangulations::darts::Edge;
 use triangulations::moves::exchanged;
 use triangulations::step::{Label, Step};
+
+// So few steps are moved one by one.
+const FEW: usize = 16;
 
 impl Walk {
     /// Puts `new` in place of the `taken` steps from `at` on, where there are so many and the walk stays within 256 steps.
@@ -63,7 +66,7 @@ impl Walk {
         ensures len { self.new.len ≡ self.old.len - taken }
         ensures rest { held self.new ≡ take at (held self.old) ++ drop (at + taken) (held self.old) }
     {
-        self.steps.copy_within(at + taken..self.len, at);
+        self.slide(at + taken, at);
         self.len -= taken;
     }
 
@@ -72,9 +75,25 @@ impl Walk {
         requires { (at ≤ self.old.len) × (self.old.len + length new.now ≤ 256) }
         ensures { held self.new ≡ take at (held self.old) ++ (new.now ++ drop at (held self.old)) }
     {
-        self.steps.copy_within(at..self.len, at + new.len());
+        self.slide(at, at + new.len());
         self.steps[at..at + new.len()].copy_from_slice(new);
         self.len += new.len();
+    }
+
+    // Copies the steps from `from` on to `to`. Many go as one block, by way of a copy of the table: `copy_within` goes step by step,
+    // which is quicker for few.
+    fn slide(&mut self, from: usize, to: usize)
+        requires { (from ≤ self.old.len) × (to + (self.old.len - from) ≤ 256) }
+        ensures len { self.new.len ≡ self.old.len }
+        ensures slid { self.new.steps ≡ copy_within self.old.steps from self.old.len to }
+    {
+        if self.len - from < FEW {
+            self.steps.copy_within(from..self.len, to);
+        } else {
+            let old = self.steps;
+            let rest = &old[from..self.len];
+            self.steps[to..to + rest.len()].copy_from_slice(rest);
+        }
     }
 }
 

@@ -8,8 +8,8 @@ returns-clause-exchanged c = λ a b p q.
     let xs = c.args.self.now.steps in
     let n = c.args.self.now.len in
     let at = c.args.at in
-    let u : get_or xs at a ≡ a = nth_taken n xs at a a (omega arith) p in
-    let v : get_or xs (at + 1) a ≡ b = nth_taken n xs (at + 1) b a (omega arith) q in
+    let u : get_or xs at a ≡ a = nth_taken n xs at a a p in
+    let v : get_or xs (at + 1) a ≡ b = nth_taken n xs (at + 1) b a q in
     ap (take n) (c.swap.ensures.by_index.3 a)
     ∙ ap (λ y. take n (set (set xs at y) (at + 1) (get_or xs at a))) v
     ∙ ap (λ y. take n (set (set xs at b) (at + 1) y)) u

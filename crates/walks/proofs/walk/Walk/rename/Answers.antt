@@ -10,6 +10,6 @@ returns-clause-renamed c = λ s p.
     let n = c.args.self.now.len in
     let at = c.args.at in
     let new = renamed_named c.args.e c.args.f in
-    ap (λ y. take n (set xs at y)) (c.rename_step.ensures ∙ ap new (nth_taken n xs at s _ (omega arith) p))
+    ap (λ y. take n (set xs at y)) (c.rename_step.ensures ∙ ap new (nth_taken n xs at s _ p))
     ∙ take-set-lt n xs at (new s) (omega arith)
     ∙ one_replaced (take n xs) at s (new s) p
