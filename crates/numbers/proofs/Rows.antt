@@ -1,4 +1,4 @@
--- A run of numbers.
+-- Slices of bytes, from which a run of numbers is read.
 use Rattle.std.proofs.Common.{◌≡◌, ℕ, ◌-◌, List, length, take, drop, arith, take_all}
 use Rattle.std.proofs.lemmas.List.{length-drop}
 

@@ -101,6 +101,7 @@ impl Site<'_> {
     }
 
     // The swap and turns that the five flips of two edges amount to, where they make a pentagon there.
+    // In line: without the hint both ways of a pentagon took half as long again.
     #[inline]
     fn turned_swap(&self, e: Edge, f: Edge) -> Result<SwapAndTurns, RewritingFault>
         ensures { run_meant result ≡ turned_swap self.now.place (on self.now.there.now).next e f (pentagon_at (on self.now.there.now).next e f) }

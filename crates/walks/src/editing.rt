@@ -10,7 +10,7 @@ use triangulations::darts::Edge;
 use triangulations::moves::exchanged;
 use triangulations::step::{Label, Step};
 
-// So few steps are moved one by one.
+// Fewer steps than this are moved one by one.
 const FEW: usize = 16;
 
 impl Walk {
