@@ -2,7 +2,7 @@
 use Rattle.std.proofs.Common.{[], ◌∷◌}
 use Rattle.exact.specs.Field.{Field, Laws}
 use Rattle.exact.specs.Flips.{flipped, Pentagon}
-use Rattle.exact.specs.Consequences.{Undoes, Turns, FiveCycle}
+use Rattle.exact.specs.Consequences.{Diagonals, Undoes, Turns, FiveCycle}
 use Rattle.exact.proofs.Normal.{Expr, ◌⊕◌, ◌⊗◌, ◌⊘◌, ◌≗◌, ◌≔◌⇒◌, prove}
 use Rattle.exact.proofs.Rearranged.{plus, times, over}
 
@@ -34,6 +34,9 @@ module _ {F : Field} (laws : Laws F) where
       (a b c g e e' : F.Exact) → F.same (F.product e e') (F.sum (F.product a c) (F.product b g)) → F.same e' (flipped F a c b g e)
   product_flip a b c g e e' =
       prove laws (a ∷ b ∷ c ∷ g ∷ e ∷ e' ∷ []) (λ A B C G E E'. E ⊗ E' ≔ A ⊗ C ⊕ B ⊗ G ⇒ E' ≗ flip A C B G E) tt
+
+  pub diagonals : Diagonals F
+  diagonals a b c g e e' = (flip_product a b c g e e', product_flip a b c g e e')
 
   -- A flip and the flip back.
   pub undoes : Undoes F

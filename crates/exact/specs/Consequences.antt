@@ -1,4 +1,5 @@
 -- What follows from the laws of a field.
+use Rattle.std.specs.Prelude.{◌↔◌}
 use Rattle.exact.specs.Field.{Field}
 use Rattle.exact.specs.Flips.{flipped, Pentagon}
 
@@ -24,6 +25,11 @@ module _ (F : Field) where
     -- quotients are the same when their cross products are, and only then
     pub cross : (x y u v : F.Exact) → F.same (F.quotient x y) (F.quotient u v) → F.same (F.product x v) (F.product u y)
     pub crossed : (x y u v : F.Exact) → F.same (F.product x v) (F.product u y) → F.same (F.quotient x y) (F.quotient u v)
+
+  -- The value of a flip is the one that times the edge's own is the sum of the products of opposite sides: Ptolemy's relation of the two
+  -- diagonals e and e'.
+  abbrev pub Diagonals : Type 0
+  Diagonals = (a b c g e e' : F.Exact) → F.same e' (flipped F a c b g e) ↔ F.same (F.product e e') (F.sum (F.product a c) (F.product b g))
 
   -- A flip and the flip back give the old value. The sides of the quadrilateral are met in the order b, g, c, a on the way back.
   abbrev pub Undoes : Type 0

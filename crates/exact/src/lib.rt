@@ -2,7 +2,7 @@
 #![tactic(auto)]
 
 ghost use Rattle.exact.specs.Field.{Field, Laws};
-ghost use Rattle.exact.specs.Consequences.{Cancels, Quotients, Undoes, Turns, FiveCycle};
+ghost use Rattle.exact.specs.Consequences.{Cancels, Quotients, Diagonals, Undoes, Turns, FiveCycle};
 ghost use Rattle.exact.specs.Models.{integers, ratios};
 ghost use Rattle.exact.specs.ModelsLemmas.{integers_laws, ratios_laws};
 
@@ -43,8 +43,9 @@ pub fn quotients_stand<E: ExactField>()
     ensures { Quotients E.ExactField.field }
 {}
 
-/// A flip's value can be undone, and read from any corner, in every field.
+/// A flip's value is that of Ptolemy's relation, can be undone, and can be read from any corner, in every field.
 pub fn undoing_stands<E: ExactField>()
+    ensures diagonals { Diagonals E.ExactField.field }
     ensures undoes { Undoes E.ExactField.field }
     ensures turns { Turns E.ExactField.field }
 {}
