@@ -46,6 +46,7 @@ module _ (n : ℕ) (p : ℕ → Bool) where
         λ l m. cond-false (p l) (Some l) None (false_from_ne_true (p l) (λ e. omega (arith, u l (omega arith) e))),
       ))
 
+  -- what is found is below n
   pub found_below : (k : ℕ) → first_below n p ≡ Some k → k < n
   unfolding first_below
   found_below k e = (let w = subst (Tells n (λ k. cond (p k) (Some k) None)) e (first_tells n (λ k. cond (p k) (Some k) None)) in

@@ -1,4 +1,5 @@
 pub mod Admission
+pub mod Following
 pub mod Mapping
-pub mod Rows
 pub mod Pentagon
+pub mod Rows

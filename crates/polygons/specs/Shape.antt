@@ -1,16 +1,14 @@
 -- What every polygon of the code has.
-use Rattle.std.specs.Prelude.{◌≡◌, ℕ, ◌+◌, ◌-◌, ◌<◌, Bool, length, Some, None, Option}
-use Rattle.std.proofs.Common.{ap, ◌∙◌, arith}
-use Rattle.std.specs.Option.{option_and_then}
+use Rattle.std.specs.Prelude.{◌≡◌, ℕ, ◌+◌, ◌-◌, ◌<◌, Bool, length, Some}
+use Rattle.std.proofs.Common.{arith}
 use Rattle.std.proofs.lemmas.List.{length-take-le}
 use Rattle.std.specs.List.{position}
 use Rattle.std.proofs.lemmas.List.Quantifiers.{position-Some}
 use Rattle.surfaces.specs.Surfaces.{Sound}
 use Rattle.polygon_counting.specs.declared.diagonal.Diagonal.{Diagonal}
 use Rattle.polygon_counting.specs.Diagonals.{Uncrossed}
-use Rattle.polygon_counting.specs.Polygons.{first_below, dart_to, apex, following, ends, polygon_next}
+use Rattle.polygon_counting.specs.Polygons.{ends}
 use Rattle.polygon_counting.proofs.Laws.{cut_into_triangles, corners_below}
-use Rattle.polygon_counting.proofs.Searching.{found_below}
 use Rattle.polygons.specs.declared.polygon.Polygon.{Polygon}
 use Rattle.polygons.specs.Meaning.{cut_by, triangulation_of}
 use Rattle.polygons.specs.Admission.{uncrossed}
@@ -37,23 +35,3 @@ ends_below p = corners_below p.corners (cut_by p) (full p) (apart p)
 
 pub found_diagonal : (p : Polygon) (f : Diagonal → Bool) (k : ℕ) → position f (cut_by p) ≡ Some k → k + 3 < p.corners
 found_diagonal p f k e = omega (arith, (position-Some f (cut_by p) k (record { low = 0; high = 0 }) e).0, full p)
-
-pub found_number : (p : Polygon) (f : ℕ → Bool) (k : ℕ) → first_below (length (cut_by p)) f ≡ Some k → k + 3 < p.corners
-found_number p f k e = omega (arith, found_below (length (cut_by p)) f k e, full p)
-
--- what follows a dart, by what is known of it
-module _ (p : Polygon) (d : ℕ) where
-  abbrev then_following : Option (ℕ × ℕ) → Option ℕ
-  then_following = option_and_then (λ e. following p.corners (cut_by p) e.0 e.1)
-
-  pub next_outside : ends p.corners (cut_by p) d ≡ None → polygon_next p.corners (cut_by p) d ≡ None
-  unfolding polygon_next
-  next_outside e = ap then_following e
-
-  pub next_open : (u v : ℕ) → ends p.corners (cut_by p) d ≡ Some (u, v) → apex p.corners (cut_by p) u v ≡ None → polygon_next p.corners (cut_by p) d ≡ None
-  unfolding polygon_next
-  next_open u v e f = ap then_following e ∙ ap (option_and_then (dart_to p.corners (cut_by p) v)) f
-
-  pub next_closed : (u v w : ℕ) → ends p.corners (cut_by p) d ≡ Some (u, v) → apex p.corners (cut_by p) u v ≡ Some w → polygon_next p.corners (cut_by p) d ≡ dart_to p.corners (cut_by p) v w
-  unfolding polygon_next
-  next_closed u v w e f = ap then_following e ∙ ap (option_and_then (dart_to p.corners (cut_by p) v)) f

@@ -6,7 +6,7 @@ use Rattle.triangulations.specs.Triangulations.{is_some, Table, Triangulation, L
 use Rattle.triangulations.specs.Steps.{left, right, opposite, triangle_in, with_d, with_p, flipped_by, flipped, relabelled, renamed, stepped, apply_step, LegalStep, flip_step, Direction}
 use Rattle.triangulations.specs.Steps.{Step as Move}
 use Rattle.triangulations.specs.Stored.{table_of, stored, Within, written, lawful_list}
-use Rattle.triangulations.proofs.Stored.{table_triangle, beyond, lawful_from_list, list_from_lawful}
+use Rattle.triangulations.proofs.Stored.{table_triangle, beyond, lawful_from_list, list_from_lawful, yes_is}
 use Rattle.triangulations.proofs.Frames.{flipped_as}
 use Rattle.triangulations.proofs.Flips.{flip_parts, inside_tri}
 use Rattle.triangulations.proofs.Labels.{step_lawful}
@@ -191,14 +191,10 @@ shares_past x e f h = let few = x.table.few in λ i. meets_past (on x) (law x) (
 pub shares_none : (x : Board) (e f : ℕ) → 64 ≤ e → shares (table x) e f ≡ false
 shares_none x e f h = let full = x.table.full in λ i. meets_none x.table.next (2 * e) f (omega arith) i || meets_none x.table.next (2 * e + 1) f (omega arith) i
 
-yes_true : (b : Bool) → Yes b → b ≡ true
-yes_true true h = refl
-yes_true false h = absurd h
-
 -- a test for the condition of a step decides whether the step is legal
 pub flip_decides : (w : Direction) (e : ℕ) (t : Triangulation) (r : Bool) → r ≡ flippable t.next e → Decides r (LegalStep (flip_step w e) t)
-flip_decides left e t r h = (λ q. subst Yes (sym (sym h ∙ q)) tt, λ y. h ∙ yes_true _ y)
-flip_decides right e t r h = (λ q. subst Yes (sym (sym h ∙ q)) tt, λ y. h ∙ yes_true _ y)
+flip_decides left e t r h = (λ q. subst Yes (sym (sym h ∙ q)) tt, λ y. h ∙ sym (yes_is _ y))
+flip_decides right e t r h = (λ q. subst Yes (sym (sym h ∙ q)) tt, λ y. h ∙ sym (yes_is _ y))
 
 pub label_decides : (l : Label) (t : Triangulation) (r : Bool) → Decides r (NamesLabel l t.edges) → Decides r (LegalStep (meant_label l) t)
 label_decides (Turn e) t r h = h

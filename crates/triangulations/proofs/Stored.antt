@@ -110,15 +110,16 @@ below_fails n p k h e = go (all_below n p) refl
     go false q = refl
     go true q = absurd (subst Yes e (at_below n p (subst Yes (sym q) tt) k h))
 
+-- a test that holds is true
+pub yes_is : (b : Bool) → Yes b → true ≡ b
+yes_is true y = refl
+yes_is false y = absurd y
+
 -- what `all` over the numbers below n answers
 pub all_in_range : (n : ℕ) (p : ℕ → Bool) (r : Bool)
     → MatchBool r (AllWithin (λ x. true ≡ p x) (range_with_len 0 n) 0 (length (range_with_len 0 n))) ((k : ℕ) × (k < length (range_with_len 0 n)) × HoldsAt (λ x. false ≡ p x) (range_with_len 0 n) k)
     → r ≡ all_below n p
 all_in_range n p true h = yes_is _ (below_all n p (λ k l. let at : get_or (range_with_len 0 n) k 0 ≡ k = get_or-range_with_len 0 n k 0 l ∙ omega arith in subst Yes (h k 0 (omega arith) (omega (arith, length-range_with_len 0 n)) ∙ ap p at) tt))
-  where
-    yes_is : (b : Bool) → Yes b → true ≡ b
-    yes_is true y = refl
-    yes_is false y = absurd y
 all_in_range n p false (k, l, h) =
     let m : k < n = omega (arith, l, length-range_with_len 0 n) in
     let at : get_or (range_with_len 0 n) k 0 ≡ k = get_or-range_with_len 0 n k 0 m ∙ omega arith in
