@@ -5,7 +5,7 @@ use triangulations::step::Step;
 use walks::walk::Walk;
 
 /// The walk whose steps have these records.
-pub fn walk_of(rt: &impl Abort, records: &[[u8; 3]]) -> Result<Walk, Fail> {
+pub(crate) fn walk_of(rt: &impl Abort, records: &[[u8; 3]]) -> Result<Walk, Fail> {
     let mut walk = Walk::new();
     for record in records {
         let step = Step::read(*record, 64)?;
@@ -15,13 +15,13 @@ pub fn walk_of(rt: &impl Abort, records: &[[u8; 3]]) -> Result<Walk, Fail> {
 }
 
 /// The steps of the walk have just these records.
-pub fn holds(rt: &impl Abort, walk: &Walk, records: &[[u8; 3]]) {
+pub(crate) fn holds(rt: &impl Abort, walk: &Walk, records: &[[u8; 3]]) {
     let written = walk.steps().iter().map(|step| step.write());
     assert!(rt; written.eq(records.iter().copied()));
 }
 
 /// A record as its seven bytes stand in a file.
-pub fn record_of(bytes: [u8; 7]) -> Record {
+pub(crate) fn record_of(bytes: [u8; 7]) -> Record {
     let [rule, way, high, low, code, e, f] = bytes;
     Record {
         rule,
